@@ -1,0 +1,9 @@
+-- The definitions that the contracts cite, each module beside the module of src/ that it describes. `Notation` and `Units` serve every crate.
+pub mod Notation
+pub mod Constants
+pub mod Units
+pub mod Sign
+pub mod Convert
+pub mod Root
+pub mod Exponential
+pub mod Logarithm
