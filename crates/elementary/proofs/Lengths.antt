@@ -51,3 +51,6 @@ shifted-gt q a b z m h l =
 -- two shifts are one
 pub two-pows : (q a b : ℕ) → q * 2 ^ a * 2 ^ b ≡ q * 2 ^ (a + b)
 two-pows q a b = mul-assoc q (2 ^ a) (2 ^ b) ∙ ap (λ (n : ℕ). q * n) (sym (pow-add 2 a b))
+
+pub pow-lt-back : {i j : ℕ} → 2 ^ i < 2 ^ j → i < j
+pow-lt-back h = lt-of-not-le (λ g. not-le-of-lt h (pow-mono g))

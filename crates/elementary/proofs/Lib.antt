@@ -4,4 +4,10 @@ pub mod Patterns
 pub mod Signs
 pub mod Lengths
 pub mod Rounded
+pub mod Quotients
+pub mod Magnitude
 mod Rounding
+mod Inside
+pub mod Squares
+mod Scaled
+pub mod Nearest

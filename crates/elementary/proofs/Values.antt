@@ -5,7 +5,7 @@
 use mathlib.Core.Path.{_≡_, refl, sym, ap, _∙_, subst}
 use mathlib.Core.Bool.{Bool, true, false, not, cond, true≢false}
 use Prim.Native.Nat.{ℕ, zero, suc, _+_, _-_, _*_, _/_, _%_, _^_, _<_}
-use native.Mathlib.Nat.{mul-div-cancel, mul-comm, mul-pos, lt-irrefl, zero-lt-suc, mod-lt, div-lt-iff-lt-mul}
+use native.Mathlib.Nat.{mul-div-cancel, mul-assoc, mul-comm, mul-right-comm, mul-pos, lt-irrefl, zero-lt-suc, mod-lt, div-lt-iff-lt-mul}
 use native.Mathlib.Omega.{arith}
 use lib.IntN.{ℤ}
 use lib.Pow.{pow-pos}
@@ -15,6 +15,7 @@ use lib.Ieee.Fits.{down-pos}
 use lib.Ieee.Bits.{ofBits-toBits, cond-no, is-true}
 use lib.Ieee.Compare.{differs-from-itself}
 use lib.Ieee.Exact.{HasValue, odd-sign}
+use lib.Ieee.Positive.{positive}
 
 -- ---- the pattern of a value, by its sign and its size in units of the format's smallest value
 
@@ -32,6 +33,12 @@ word-is f (fin t m e) s a v = word-of f t m e a (v .1) ∙ ap (λ (b : Bool). wo
 
 pub unique : (f : Format) (x y : Float) (s : Bool) (a : ℕ) → T (fits f x) → T (fits f y) → HasValue x s a (2 ^ low f) → HasValue y s a (2 ^ low f) → x ≡ y
 unique f x y s a F G v w = sym (ofBits-toBits f x F) ∙ ap (ofBits f) (word-is f x s a v ∙ sym (word-is f y s a w)) ∙ ofBits-toBits f y G
+
+-- the same size as another fraction
+pub scale-value : (x : Float) (s : Bool) (a c k : ℕ) → HasValue x s a c → HasValue x s (a * k) (c * k)
+scale-value nan s a c k v = v
+scale-value (inf t) s a c k v = v
+scale-value (fin t m e) s a c k v = (v .0, sym (mul-assoc (m * up e) c k) ∙ ap (λ (n : ℕ). n * k) (v .1) ∙ mul-right-comm a (down e) k)
 
 -- ---- the fields of a pattern
 
@@ -112,3 +119,30 @@ module _ (f : Format) (x : Float) (F : T (fits f x)) where
       let p : suc (field - 1) ≡ field = omega arith in
       subst (λ (v : Float). HasValue v negative ((hid f + digits) * 2 ^ (field - 1)) (2 ^ low f)) (ap (λ (n : ℕ). ofFields f negative n digits) p ∙ is)
       (read-high f negative (field - 1) digits (omega arith))
+
+-- ---- a finite x above zero: its pattern has no sign, and its field is not an infinity's
+
+pub number : (x : Float) → T (positive x) → T (not (isNan x))
+unfolding isNan
+number nan p = absurd p
+number (inf s) p = absurd p
+number (fin s m e) p = tt
+
+plus-sign : (x : Float) (s : Bool) (a c : ℕ) → T (positive x) → HasValue x s a c → s ≡ false
+plus-sign nan s a c p v = absurd p
+plus-sign (inf t) s a c p v = absurd p
+plus-sign (fin true m e) s a c p v = absurd p
+plus-sign (fin false m e) s a c p v = sym (v .0)
+
+module _ (f : Format) (x : Float) (F : T (fits f x)) (p : T (positive x)) where
+  unsigned : (a : ℕ) → HasValue x (negative f x F) a (2 ^ low f) → HasValue x false a (2 ^ low f)
+  unsigned a v = subst (λ (s : Bool). HasValue x s a (2 ^ low f)) (plus-sign x (negative f x F) a (2 ^ low f) p v) v
+
+  pub not-top : field f x F ≡ ones f → ⊥
+  not-top e = subst (λ (v : Float). T (positive v)) (at-top f x F e (number x p)) p
+
+  pub subnormal-at : field f x F ≡ 0 → HasValue x false (digits f x F * 2 ^ 0) (2 ^ low f)
+  subnormal-at e = unsigned (digits f x F * 2 ^ 0) (at-zero f x F e)
+
+  pub normal-at : (field f x F ≡ 0 → ⊥) → HasValue x false ((hid f + digits f x F) * 2 ^ (field f x F - 1)) (2 ^ low f)
+  normal-at z = unsigned ((hid f + digits f x F) * 2 ^ (field f x F - 1)) (between f x F z not-top)

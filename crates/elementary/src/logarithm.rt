@@ -39,7 +39,10 @@ pub fn ln(x: f32) -> f32
     if x >= 1.17549435e-38 {
         if x < 1.0 {
             let bits = f32::to_bits(x);
-            return ln_of(0x80_0000 + bits % 0x80_0000, bits / 0x80_0000 - 1);
+            return ln_of(
+                0x80_0000 + bits % 0x80_0000,
+                bits % 0x8000_0000 / 0x80_0000 - 1,
+            );
         }
     }
     nan()

@@ -47,7 +47,7 @@ fn guess(n: u64) -> u64
 // The whole number nearest to the root of n: the guess g where 4 * n lies between the squares of
 // 2 * g - 1 and 2 * g + 1, which differ by 8 * g, and else by the digits.
 fn nearest_root(n: u64) -> u64
-    requires { ⌜ n < 2 ^ 48 ⌝ }
+    requires { ⌜ 0 < n ⌝ ∗ ⌜ n + 2 ^ 24 ≤ 2 ^ 48 ⌝ }
     ensures { λ r. ⌜ r ≡ nearestRoot n ⌝ }
 {
     let g = guess(n);

@@ -1,65 +1,73 @@
+-- `elementary::root::by_digits` meets its contract. The loop's invariant: the d digits that are left to set, from g on, give the root, and 24 digits hold it. Assumes nothing.
+use mathlib.Core.Path.{_≡_, refl, sym, ap, _∙_, subst}
+use Prim.Native.Nat.{ℕ, suc, _+_, _-_, _*_, _%_, _^_, _<_, _≤_}
+use native.Mathlib.Nat.{lt-of-le-of-lt, one-mul, mul-le-mul, pow-succ'}
+use native.Mathlib.Omega.{arith}
+use borrow.Author.Tests.{lt-ltb, le-ltb}
+use lib.Dec.{lit<, lit≤}
+use lib.Pow.{pow-pos, shl-exact}
+use Rattle.elementary.specs.Root.{digits, nearestRoot}
+use Rattle.elementary.proofs.Squares.{turn, none}
 use Rattle.elementary.proofs.root.by_digits.Statement.{statement}
 use Rattle.elementary.proofs.root.by_digits.Tie as tie
-use Rattle.elementary.proofs.root.by_digits.Reads as reads
-use Rattle.elementary.proofs.root.by_digits.Lts as lts
 
 abbrev Inv-loop : tie.InvT-loop
-Inv-loop n g₀ d₀ g d = ?
+Inv-loop n g₀ d₀ g d = (d ≤ 24) × (g + 2 ^ d ≤ 2 ^ 24) × (digits d n g ≡ nearestRoot n)
 
 abbrev μ-loop : tie.MeasureT-loop
-μ-loop n g₀ d₀ g d = ?
+μ-loop n g₀ d₀ g d = d
 
--- src/root.rt:14:5
-loop-holds : tie.Need-loop-holds Inv-loop μ-loop
-loop-holds c = ?
+-- in the loop: the weight of the digit, as the machine has it
+module _ (c : tie.In-loop Inv-loop μ-loop) where
+  abbrev d : ℕ
+  d = c .before .loop .d
 
--- src/root.rt:15:9
-sub-d : tie.Need-sub-d Inv-loop μ-loop
-sub-d c = ?
+  abbrev g : ℕ
+  g = c .before .loop .g
 
--- src/root.rt:16:22
-shl-h : tie.Need-shl-h Inv-loop μ-loop
-shl-h c = ?
+  abbrev unit : ℕ
+  unit = 1 * 2 ^ (d - 1) % 2 ^ 64
 
--- src/root.rt:16:17
-add-h : tie.Need-add-h Inv-loop μ-loop
-add-h c = ?
+  unit-is : unit ≡ 2 ^ (d - 1)
+  unit-is = shl-exact 1 (d - 1) 64 (lit< tt) (omega arith) ∙ one-mul (2 ^ (d - 1))
 
--- src/root.rt:17:19
-mul-odd : tie.Need-mul-odd Inv-loop μ-loop
-mul-odd c = ?
+  halves : 2 ^ d ≡ 2 * unit
+  halves =
+      let s : d ≡ suc (d - 1) = omega arith in
+      ap (λ (k : ℕ). 2 ^ k) s ∙ pow-succ' 2 (d - 1) ∙ ap (λ (u : ℕ). 2 * u) (sym unit-is)
 
--- src/root.rt:17:19
-sub-odd : tie.Need-sub-odd Inv-loop μ-loop
-sub-odd c = ?
+  some : 0 < unit
+  some = subst (λ (u : ℕ). 0 < u) (sym unit-is) (pow-pos (d - 1))
 
--- src/root.rt:18:12
+  room : g + 2 * unit ≤ 2 ^ 24
+  room = omega (arith, halves)
+
 mul-if1 : tie.Need-mul-if1 Inv-loop μ-loop
-mul-if1 c = ?
+mul-if1 c =
+    let l : 2 * (g c + unit c) - 1 ≤ 2 ^ 25 = omega (arith, room c) in
+    record { fits = lt-of-le-of-lt (mul-le-mul l l) (lit< tt) }
 
--- src/root.rt:18:24
-mul-if1-2 : tie.Need-mul-if1-2 Inv-loop μ-loop
-mul-if1-2 c = ?
-
--- src/root.rt:14:5
-loop-less : tie.Need-loop-less Inv-loop μ-loop
-loop-less c = ?
-
--- src/root.rt:14:5
+-- the digit is set, or not
 loop-again : tie.Need-loop-again Inv-loop μ-loop
-loop-again c = ?
+loop-again c =
+    let t = c .before in
+    let n = t .before .before .args .n in
+    let test = lt-ltb _ _ (c .if1 .taken) in
+    (omega arith, omega (arith, room t, unit-is t), sym (turn (d t) n (g t) (unit t) (t .loop-test .taken) (unit-is t) test) ∙ t .before .loop .inv .2)
 
--- src/root.rt:14:5
-loop-less-2 : tie.Need-loop-less-2 Inv-loop μ-loop
-loop-less-2 c = ?
-
--- src/root.rt:14:5
 loop-again-2 : tie.Need-loop-again-2 Inv-loop μ-loop
-loop-again-2 c = ?
+loop-again-2 c =
+    let t = c .before in
+    let n = t .before .before .args .n in
+    let test = le-ltb _ _ (c .if1 .left) in
+    (omega arith, omega (arith, room t, unit-is t), sym (turn (d t) n (g t) (unit t) (t .loop-test .taken) (unit-is t) test) ∙ t .before .loop .inv .2)
 
--- src/root.rt:8:1
 returns : tie.Need-returns Inv-loop μ-loop
-returns c = ?
+returns c =
+    let l = c .before .loop in
+    let n = c .before .before .args .n in
+    let z : 0 ≡ l .d = omega arith in
+    sym (none n (l .g)) ∙ ap (λ (k : ℕ). digits k n (l .g)) z ∙ l .inv .2
 
 pub by-digits-spec : {M : Type 1} → statement M
 by-digits-spec =
@@ -67,16 +75,16 @@ by-digits-spec =
     (tie.spec
     Inv-loop
     μ-loop
-    loop-holds
-    sub-d
-    shl-h
-    add-h
-    mul-odd
-    sub-odd
+    (λ c. (lit≤ tt, lit≤ tt, refl))
+    (λ c. omega arith)
+    (λ c. omega arith)
+    (λ c. omega (arith, room c))
+    (λ c. omega (arith, room c))
+    (λ c. omega (arith, some c))
     mul-if1
-    mul-if1-2
-    loop-less
+    (λ c. omega arith)
+    (λ c. omega arith)
     loop-again
-    loop-less-2
+    (λ c. omega arith)
     loop-again-2
     returns)

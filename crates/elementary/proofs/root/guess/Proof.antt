@@ -1,50 +1,30 @@
+-- `elementary::root::guess` is safe: n is small enough for the cast, the constant is above what is taken from it, and the bits are read of what is no NaN. Assumes nothing.
+use Prim.Native.Nat.{_^_}
+use native.Mathlib.Omega.{arith}
 use borrow.Author.Needs.{needs}
+use lib.Dec.{le→leb}
+use lib.Ieee.{binary64, inFloat}
+use Rattle.elementary.proofs.Values.{equals-itself}
+use Rattle.elementary.proofs.Patterns.{no-nan}
 use Rattle.elementary.proofs.root.guess.Statement.{statement}
 use Rattle.elementary.proofs.root.guess.Tie as tie
-use Rattle.elementary.proofs.root.guess.Reads as reads
-use Rattle.elementary.proofs.root.guess.Lts as lts
 
--- src/root.rt:31:13
 int-to-float-t : tie.Need-int-to-float-t
-int-to-float-t c = ?
+unfolding inFloat
+int-to-float-t c = le→leb (c .before .args .n) (2 ^ 53) (omega arith)
 
--- src/root.rt:33:9
-returns : tie.Need-returns
-returns c = search needs
-
--- src/root.rt:36:52
-float-to-bits-a : tie.Need-float-to-bits-a
-float-to-bits-a c = ?
-
--- src/root.rt:36:28
-sub-a : tie.Need-sub-a
-sub-a c = search needs
-
--- src/root.rt:36:13
 float-from-bits-a : tie.Need-float-from-bits-a
-float-from-bits-a c = ?
-
--- src/root.rt:42:9
-returns-2 : tie.Need-returns-2
-returns-2 c = search needs
-
--- src/root.rt:44:5
-float-to-bits-result : tie.Need-float-to-bits-result
-float-to-bits-result c = ?
-
--- src/root.rt:28:1
-returns-3 : tie.Need-returns-3
-returns-3 c = search needs
+float-from-bits-a c = no-nan binary64 _ (omega arith)
 
 pub guess-spec : {M : Type 1} → statement M
 guess-spec =
     tie.close
     (tie.spec
     int-to-float-t
-    returns
-    float-to-bits-a
-    sub-a
+    (λ c. search needs)
+    (λ c. equals-itself _ (c .if1 .left))
+    (λ c. search needs)
     float-from-bits-a
-    returns-2
-    float-to-bits-result
-    returns-3)
+    (λ c. search needs)
+    (λ c. equals-itself _ (c .if2 .left))
+    (λ c. search needs))
