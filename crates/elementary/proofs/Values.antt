@@ -1,4 +1,4 @@
--- A float by its value. Two values that a format holds are equal if they have the same sign and the same size (`unique`): their patterns are then the same.
+-- A float by its value. Two values that a format holds are equal if they have the same pattern (`same-bits`), and so if they have the same sign and the same size (`unique`).
 -- What an exponent's field and the digits below it are read as (`read-low`, `read-high`, `read-top`), and so what x is by the parts of its pattern (`at-zero`, `between`, `at-top`).
 -- `HasValue x s a c` says that x is finite, has the sign s and the size a / c.
 -- Assumes nothing.
@@ -31,8 +31,11 @@ word-is f nan s a v = absurd v
 word-is f (inf t) s a v = absurd v
 word-is f (fin t m e) s a v = word-of f t m e a (v .1) ∙ ap (λ (b : Bool). word f b a) (v .0)
 
+pub same-bits : (f : Format) (x y : Float) → T (fits f x) → T (fits f y) → toBits f x ≡ toBits f y → x ≡ y
+same-bits f x y F G e = sym (ofBits-toBits f x F) ∙ ap (ofBits f) e ∙ ofBits-toBits f y G
+
 pub unique : (f : Format) (x y : Float) (s : Bool) (a : ℕ) → T (fits f x) → T (fits f y) → HasValue x s a (2 ^ low f) → HasValue y s a (2 ^ low f) → x ≡ y
-unique f x y s a F G v w = sym (ofBits-toBits f x F) ∙ ap (ofBits f) (word-is f x s a v ∙ sym (word-is f y s a w)) ∙ ofBits-toBits f y G
+unique f x y s a F G v w = same-bits f x y F G (word-is f x s a v ∙ sym (word-is f y s a w))
 
 -- the same size as another fraction
 pub scale-value : (x : Float) (s : Bool) (a c k : ℕ) → HasValue x s a c → HasValue x s (a * k) (c * k)
