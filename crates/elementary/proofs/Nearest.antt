@@ -2,20 +2,20 @@
 use mathlib.Core.Path.{_≡_, refl, sym, ap, _∙_, subst}
 use mathlib.Core.Bool.{Bool, true, false}
 use Prim.Native.Nat.{ℕ, zero, suc, _+_, _-_, _*_, _^_, _<_, _≤_}
-use native.Mathlib.Nat.{le-trans, le-of-eq, lt-of-lt-of-le, lt-irrefl, mul-one, mul-le-mul, mul-lt-mul-of-pos-right, eq-of-mul-eq-mul-right}
+use native.Mathlib.Nat.{mod-lt, le-trans, le-of-eq, lt-of-lt-of-le, lt-irrefl, mul-le-mul, mul-lt-mul-of-pos-right, eq-of-mul-eq-mul-right}
 use native.Mathlib.Omega.{arith}
-use lib.Dec.{T, lit<}
+use lib.Dec.{T}
 use lib.Pow.{pow-add, pow-pos, pow-mono}
 use lib.Ieee.{Float, nan, inf, fin, binary32, fits, size, down}
 use lib.Ieee.Fits.{down-pos}
 use lib.Ieee.Exact.{HasValue}
-use lib.Ieee.Positive.{positive, first-pos, value-pos}
-use Rattle.elementary.specs.Units.{mag}
+use lib.Ieee.Positive.{positive}
+use Rattle.elementary.specs.Units.{mag, unitsOf, Normalised}
 use Rattle.elementary.specs.Root.{sqrt, rootOf, NearestRoot, Root}
-use Rattle.elementary.proofs.Magnitude.{mag-at}
-use Rattle.elementary.proofs.Values.{unique, pattern, field, digits, field-lt, subnormal-at, normal-at, not-top}
+use Rattle.elementary.proofs.Magnitude.{mag-at, units-at, field-small, some-part}
+use Rattle.elementary.proofs.Values.{unique, pattern, field, digits}
 use Rattle.elementary.proofs.Squares.{between-unique}
-use Rattle.elementary.proofs.Scaled.{root-nearest}
+use Rattle.elementary.proofs.Scaled.{subnormal, normal, root-nearest}
 
 -- ---- `sqrt` by the size of its argument in units
 
@@ -33,20 +33,15 @@ sqrt-units x a p v = ap rootOf (sym (mag-at x false a v)) ∙ sqrt-mag x p
 -- ---- it is the nearest value
 
 module _ (x : Float) (F : T (fits binary32 x)) (p : T (positive x)) where
-  of-units : (q j : ℕ) → q < 2 ^ 24 → j < 254 → HasValue x false (q * 2 ^ j) (2 ^ 149) → NearestRoot x (sqrt x)
-  of-units q j h J v =
-      subst (NearestRoot x) (sqrt-units x (q * 2 ^ j) p v)
-      (root-nearest q j (size q) (first-pos q (2 ^ j) (value-pos x (q * 2 ^ j) (2 ^ 149) p (pow-pos 149) v)) h J refl x v)
+  of-units : (a q length : ℕ) → Normalised a q length → HasValue x false a (2 ^ 149) → NearestRoot x (sqrt x)
+  of-units a q length N v = subst (NearestRoot x) (sqrt-units x a p v) (root-nearest a q length N x v)
 
   pub sqrt-nearest : NearestRoot x (sqrt x)
-  sqrt-nearest = go (field binary32 x F) refl
+  sqrt-nearest = go (field binary32 x F) (digits binary32 x F) (field-small x F p) (mod-lt (pattern binary32 x F) (pow-pos 23)) (some-part x F p) (units-at x F p)
     where
-      go : (k : ℕ) → field binary32 x F ≡ k → NearestRoot x (sqrt x)
-      go zero e = of-units (digits binary32 x F) 0 (omega arith) (lit< tt) (subnormal-at binary32 x F p e)
-      go (suc k) e =
-          let l = field-lt binary32 (pattern binary32 x F) in
-          let t = not-top binary32 x F p in
-          of-units (2 ^ 23 + digits binary32 x F) (field binary32 x F - 1) (omega arith) (omega arith) (normal-at binary32 x F p (λ z. omega arith))
+      go : (k t : ℕ) → k < 255 → t < 2 ^ 23 → 0 < k + t → HasValue x false (unitsOf k t) (2 ^ 149) → NearestRoot x (sqrt x)
+      go zero t K h P v = of-units t (t * 2 ^ (24 - size t)) (size t) (subnormal t (omega arith) h) v
+      go (suc k) t K h P v = of-units ((2 ^ 23 + t) * 2 ^ k) (2 ^ 23 + t) (k + 24) (normal k t (omega arith) h) v
 
 -- what the function ensures, from its equation
 pub root-of-equation : (x r : Float) → T (fits binary32 x) → r ≡ sqrt x → Root x r

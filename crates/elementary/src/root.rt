@@ -1,7 +1,8 @@
 // Q, the square root of an `f32`, by a root of whole numbers.
 use super::constants::nan;
 ghost use mathlib.Core.Path.{_≡_};
-ghost use Prim.Native.Nat.{_+_, _*_, _^_, _<_, _≤_};
+ghost use Prim.Native.Nat.{ℕ, _+_, _*_, _^_, _<_, _≤_};
+ghost use Rattle.elementary.specs.Units.{unitsOf, Normalised};
 ghost use Rattle.elementary.specs.Root.{nearestRoot, rootOf, Root};
 
 // The whole number nearest to the root of n, a binary digit at a time.
@@ -22,22 +23,20 @@ fn by_digits(n: u64) -> u64
     g
 }
 
-// As a rule the whole number nearest to the root of n. Nothing rests on it. The bits of t, halved
-// and taken from a constant, are a first guess of 1 / sqrt(t); two steps of Newton's method make it
-// good to five digits, and one more on the root itself to ten. The last sum drops the fraction.
+// As a rule the whole number nearest to the root of n, and nothing rests on it. Half the bits of t
+// and a constant are a root good to one digit, a step of Halley's method makes it good to five, and
+// one of Heron's to ten. The last sum has the nearest whole number for its last digits.
 fn guess(n: u64) -> u64
     requires { ⌜ n < 2 ^ 48 ⌝ }
 {
-    let t = n as f64;
+    let t = (n as i64) as f64;
     if t != t {
         return 0;
     }
-    let half = 0.5 * t;
-    let a = f64::from_bits(0x5fe6_eb50_c7b5_37a9 - f64::to_bits(t) % 0x8000_0000_0000_0000 / 2);
-    let b = a * (1.5 - half * a * a);
-    let c = b * (1.5 - half * b * b);
-    let r = t * c;
-    let w = r + 0.5 * c * (t - r * r) + 4503599627370496.0;
+    let a = f64::from_bits(f64::to_bits(t) % 0x8000_0000_0000_0000 / 2 + 0x1ff7_a3be_a91d_9b1b);
+    let square = a * a;
+    let b = a * (square + 3.0 * t) / (3.0 * square + t);
+    let w = 0.5 * (b + t / b) + 4503599627370496.0;
     if w != w {
         return 0;
     }
@@ -62,15 +61,40 @@ fn nearest_root(n: u64) -> u64
     by_digits(n)
 }
 
-// The root of q * 2 ^ j units of 2 ^ -149.
-fn root_of(q: u32, j: u32) -> f32
-    requires { ⌜ 0 < q ⌝ ∗ ⌜ q < 2 ^ 24 ⌝ ∗ ⌜ j < 254 ⌝ }
-    ensures { λ r. ⌜ r ≡ rootOf (q * 2 ^ j) ⌝ }
+// A finite value above zero: a significand q of 24 digits, and the number of digits that the value
+// has in units of 2 ^ -149.
+struct Normal {
+    q: u32,
+    length: u32,
+}
+
+// The value that an exponent's field and the digits below it stand for. The significand of a
+// subnormal one is scaled by its leading zeros.
+fn normalise(field: u32, digits: u32) -> Normal
+    requires { ⌜ field < 255 ⌝ ∗ ⌜ digits < 2 ^ 23 ⌝ ∗ ⌜ 0 < field + digits ⌝ }
+    ensures { λ r. ⌜ Normalised (unitsOf field digits) (r .q) (r .length) ⌝ }
 {
-    // by the leading zeros of q, n has 47 or 48 digits, and its root 24
-    let size = 32 - u32::leading_zeros(q);
-    let length = size + j;
-    let n = (q as u64) << (47 - size + length % 2);
+    if field == 0 {
+        // a number of 24 digits leaves 8 zeros of a u32
+        let zeros = u32::leading_zeros(digits) - 8;
+        return Normal {
+            q: digits << zeros,
+            length: 24 - zeros,
+        };
+    }
+    Normal {
+        q: 0x80_0000 + digits,
+        length: field + 23,
+    }
+}
+
+// The root of a value, by its significand and length: n, which is q with 23 or 24 zeros, has a root
+// of 24 digits.
+fn root_of(q: u32, length: u32) -> f32
+    requires { ⌜ 2 ^ 23 ≤ q ⌝ ∗ ⌜ q < 2 ^ 24 ⌝ ∗ ⌜ length ≤ 277 ⌝ }
+    ensures { λ r. ⌜ ((a : ℕ) → Normalised a q length → r ≡ rootOf a) ⌝ }
+{
+    let n = (q as u64) << (23 + length % 2);
     let r = nearest_root(n);
     f32::from_bits((51 + length / 2) * 0x80_0000 + (r as u32))
 }
@@ -95,8 +119,6 @@ pub fn sqrt(x: f32) -> f32
     if field == 0xff {
         return x;
     }
-    if field == 0 {
-        return root_of(digits, 0);
-    }
-    root_of(0x80_0000 + digits, field - 1)
+    let normal = normalise(field, digits);
+    root_of(normal.q, normal.length)
 }

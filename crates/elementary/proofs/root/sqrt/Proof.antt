@@ -11,9 +11,10 @@ use lib.Pow.{pow-pos}
 use lib.Ieee.{Float, nan, inf, binary32, fits, isNan, toBits}
 use lib.Ieee.Exact.{HasValue}
 use lib.Ieee.Positive.{positive, value-pos}
-use Rattle.elementary.specs.Root.{sqrt, rootOf, Root}
-use Rattle.elementary.proofs.Values.{is-nan, equals-itself, negative, digits, at-top, subnormal-at, normal-at}
+use Rattle.elementary.specs.Root.{sqrt, Root}
+use Rattle.elementary.proofs.Values.{is-nan, equals-itself, negative, at-top}
 use Rattle.elementary.proofs.Signs.{Below, inf-below, fin-below, Level, level-at, Other, nan-other, inf-other, fin-other, below, level, other}
+use Rattle.elementary.proofs.Magnitude.{units-at, field-small, some-part}
 use Rattle.elementary.proofs.Nearest.{sqrt-units, root-of-equation}
 use Rattle.elementary.proofs.root.sqrt.Statement.{statement}
 use Rattle.elementary.proofs.root.sqrt.Tie as tie
@@ -68,7 +69,7 @@ module _ (c : tie.Else3) where
   rest : Other (x start)
   rest = other (x start) (c .if3 .left) (c .before .if2 .left)
 
--- past the fourth: x has this many units of 2 ^ -149
+-- past the fourth
 module _ (c : tie.Else4) where
   abbrev first : tie.Start
   first = start (c .before)
@@ -76,36 +77,24 @@ module _ (c : tie.Else4) where
   above : T (positive (x first))
   above = finite-above (rest (c .before)) (number (c .before)) (c .if4 .left)
 
-  of-units : {r : Float} (a : ℕ) → HasValue (x first) false a (2 ^ 149) → r ≡ rootOf a → Root (x first) r
-  of-units a v e = made first (e ∙ sqrt-units (x first) a above v)
-
 returns-4 : tie.Need-returns-4
 returns-4 c =
     let e = c .before in
     let s = start e in
     made s (of-inf (negative binary32 (x s) (held s)) (rest e) (at-top binary32 (x s) (held s) (c .if4 .taken) (number e)))
 
--- at a field of 0
-module _ (c : tie.Then5) where
-  abbrev units : ℕ
-  units = digits binary32 (x (first (c .before))) (held (first (c .before))) * 2 ^ 0
-
-  low : HasValue (x (first (c .before))) false units (2 ^ 149)
-  low = subnormal-at binary32 (x (first (c .before))) (held (first (c .before))) (above (c .before)) (c .if5 .taken)
-
-  some : 0 < units
-  some = value-pos (x (first (c .before))) units (2 ^ 149) (above (c .before)) (pow-pos 149) low
+normalise-requires : tie.Need-normalise-requires
+normalise-requires c κs = let s = first c in (field-small (x s) (held s) (above c), (omega arith, some-part (x s) (held s) (above c)))
 
 root-of-requires : tie.Need-root-of-requires
-root-of-requires c κs = (omega (arith, some c), (omega arith, lit< tt))
+root-of-requires c κs = let n = c .normalise .ensures in (n .low, (n .high, n .most))
 
 returns-5 : tie.Need-returns-5
-returns-5 c = of-units (c .before .before) _ (low (c .before)) (c .root-of .ensures)
-
-returns-6 : tie.Need-returns-6
-returns-6 c =
-    let e = c .before .before in
-    of-units e _ (normal-at binary32 (x (first e)) (held (first e)) (above e) (c .before .if5 .left)) (c .root-of2 .ensures)
+returns-5 c =
+    let n = c .before in
+    let e = n .before in
+    let s = first e in
+    made s (c .root-of .ensures _ (n .normalise .ensures) ∙ sqrt-units (x s) _ (above e) (units-at (x s) (held s) (above e)))
 
 pub sqrt-spec : {M : Type 1} → statement M
 sqrt-spec =
@@ -117,9 +106,6 @@ sqrt-spec =
     (λ c. made (c .before .before .before .before) (c .nan .ensures ∙ of-below (below _ (c .before .if3 .taken))))
     number
     returns-4
+    normalise-requires
     root-of-requires
-    returns-5
-    (λ c. search needs)
-    (λ c. search needs)
-    (λ c κs. (omega arith, (omega arith, omega arith)))
-    returns-6)
+    returns-5)
