@@ -1,13 +1,13 @@
 -- What the two tests of `ln` say of x: it is finite and above zero, and has at least 2 ^ 23 and fewer than 2 ^ 149 units of 2 ^ -149. Assumes nothing.
 use mathlib.Core.Path.{_≡_, refl, sym, subst}
-use mathlib.Core.Bool.{Bool, true, false, not, true≢false, false≢true}
-use Prim.Native.Nat.{ℕ, _+_, _*_, _^_, _<_, _≤_}
+use mathlib.Core.Bool.{true, false, true≢false, false≢true}
+use Prim.Native.Nat.{ℕ, _*_, _^_, _<_, _≤_}
 use native.Mathlib.Nat.{mul-comm, mul-lt-mul-of-pos-right, lt-of-mul-lt-mul-right, le-of-mul-le-mul-right}
 use native.Mathlib.Omega.{arith}
 use lib.Dec.{T}
 use lib.Pow.{pow-pos}
 use borrow.Author.Tests.{ltb-true}
-use lib.Ieee.{Float, nan, inf, fin, up, down, isNan, lt, le, ofBits}
+use lib.Ieee.{Float, nan, inf, fin, up, down, lt, le, ofBits}
 use lib.Ieee.Exact.{HasValue}
 use lib.Ieee.Positive.{positive, above, above-of-le, values-of-le}
 use Rattle.elementary.specs.Notation.{lit}

@@ -1,9 +1,10 @@
 -- A number's length in binary digits, `size`: by its leading zeros, of a shifted number, and of a quotient by a power of two. Assumes nothing.
 use mathlib.Core.Path.{_≡_, sym, ap, _∙_}
-use Prim.Native.Nat.{ℕ, zero, suc, _+_, _-_, _*_, _/_, _^_, _<_, _≤_}
-use native.Mathlib.Nat.{le-trans, le-of-eq, lt-of-lt-of-le, lt-of-not-le, not-le-of-lt, mul-assoc, mul-le-mul-right, pow-succ', div-lt-iff-lt-mul, le-div-iff-mul-le}
+use Prim.Native.Nat.{ℕ, zero, suc, _+_, _-_, _*_, _/_, _%_, _^_, _<_, _≤_}
+use native.Mathlib.Nat.{one-mul, le-trans, le-of-eq, lt-of-lt-of-le, lt-of-not-le, not-le-of-lt, mul-assoc, mul-le-mul-right, pow-succ', div-lt-iff-lt-mul, le-div-iff-mul-le}
 use native.Mathlib.Omega.{arith}
-use lib.Pow.{pow-add, pow-pos, pow-mono, shl-lt}
+use lib.Dec.{lit<}
+use lib.Pow.{pow-add, pow-pos, pow-mono, shl-lt, shl-exact}
 use lib.Count.{leadingZeros, leading-unique}
 use lib.Ieee.{size}
 use lib.Ieee.Digits.{size-lt, size-le, size-reaches}
@@ -54,3 +55,7 @@ two-pows q a b = mul-assoc q (2 ^ a) (2 ^ b) ∙ ap (λ (n : ℕ). q * n) (sym (
 
 pub pow-lt-back : {i j : ℕ} → 2 ^ i < 2 ^ j → i < j
 pow-lt-back h = lt-of-not-le (λ g. not-le-of-lt h (pow-mono g))
+
+-- `1 << d` of a machine's word
+pub one-shifted : (d w : ℕ) → d < w → 1 * 2 ^ d % 2 ^ w ≡ 2 ^ d
+one-shifted d w h = shl-exact 1 d w (lit< tt) (omega arith) ∙ one-mul (2 ^ d)

@@ -5,9 +5,9 @@ use mathlib.Core.Bool.{Bool, true, false, not, cond, _&&_, _||_, true≢false}
 use Prim.Native.Nat.{ℕ, zero, suc, _+_, _*_, _^_, _<_, _≤_, zero-le}
 use native.Mathlib.Nat.{le-of-eq, le-of-lt, eq-of-mul-eq-mul-right, zero-mul}
 use native.Mathlib.Omega.{arith}
-use lib.Dec.{T, ltb, eqb, ltb→lt, lt→ltb, nltb→le, eqb→eq}
+use lib.Dec.{T, ltb, eqb, ltb→lt, nltb→le, eqb→eq}
 use lib.Pow.{pow-pos}
-use lib.Ieee.{Float, Format, nan, inf, fin, prec, emax, low, up, down, size, odd, units, round, neg, le, isNan}
+use lib.Ieee.{Float, Format, nan, inf, fin, prec, emax, low, up, down, odd, units, round, neg, le}
 use lib.Ieee.Fits.{down-pos, round-is, eq→eqb, and-i, and-l, and-r}
 use lib.Ieee.Exact.{HasValue, round-exact}
 use lib.Ieee.Order.{kept, drop, round-mono}

@@ -1,6 +1,6 @@
 -- `sqrt x`, of a finite binary32 x above zero, is the binary32 value nearest to the root of x (`sqrt-nearest`), and what `NearestRoot` says holds of no other (`nearest-unique`). Assumes nothing.
 use mathlib.Core.Path.{_≡_, refl, sym, ap, _∙_, subst}
-use mathlib.Core.Bool.{Bool, true, false}
+use mathlib.Core.Bool.{true, false}
 use Prim.Native.Nat.{ℕ, zero, suc, _+_, _-_, _*_, _^_, _<_, _≤_}
 use native.Mathlib.Nat.{mod-lt, le-trans, le-of-eq, lt-of-lt-of-le, lt-irrefl, mul-le-mul, mul-lt-mul-of-pos-right, eq-of-mul-eq-mul-right}
 use native.Mathlib.Omega.{arith}

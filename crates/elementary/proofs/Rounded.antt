@@ -1,17 +1,15 @@
 -- `rounded f x`, the value of the format f nearest to x. It sees only the value of x (`rounded-at`), and a value that the format holds stays as it is (`rounded-same`). Assumes nothing.
-use mathlib.Core.Path.{_≡_, refl, sym, ap, _∙_, subst}
-use mathlib.Core.Bool.{Bool, true, false, not, cond, _&&_, _||_, true≢false}
+use mathlib.Core.Path.{_≡_, refl, ap, _∙_, subst}
+use mathlib.Core.Bool.{Bool}
 use mathlib.Core.Logic.{_⊎_, inl, inr}
 use Prim.Native.Nat.{ℕ, zero, suc, _+_, _-_, _*_, _^_, _<_, _≤_}
-use native.Mathlib.Nat.{lt-irrefl, le-of-suc-le-suc, eq-or-lt-of-le, mod-lt, le-trans, le-of-eq, lt-of-lt-of-le, mul-le-mul-right, mul-pos, pow-succ'}
+use native.Mathlib.Nat.{lt-irrefl, le-of-suc-le-suc, eq-or-lt-of-le, mod-lt, lt-of-lt-of-le}
 use native.Mathlib.Omega.{arith}
-use lib.IntN.{ℤ}
-use lib.Dec.{T, ltb, eqb, ltb→lt, lt→ltb, eqb→eq, eqb-refl}
-use lib.Pow.{pow-add, pow-pos, pow-mono, shl-lt}
-use lib.Ieee.{Float, Format, binary32, binary64, nan, inf, fin, prec, emax, low, hid, ones, up, down, size, odd, units, round, neg, lt, eq, le, fits, isNan}
-use lib.Ieee.Fits.{down-pos, round-fits, nan-fits, inf-fits, round-is}
-use lib.Ieee.Exact.{HasValue, odd-sign, round-exact}
-use lib.Ieee.Order.{kept, drop, round-mono}
+use lib.Dec.{T}
+use lib.Pow.{pow-pos, pow-mono, shl-lt}
+use lib.Ieee.{Float, Format, binary32, binary64, nan, inf, fin, prec, emax, low, hid, ones, up, down, round, fits, isNan}
+use lib.Ieee.Fits.{down-pos, round-fits, nan-fits, inf-fits}
+use lib.Ieee.Exact.{HasValue, round-exact}
 use lib.Ieee.Scale.{round-same}
 use Rattle.elementary.specs.Convert.{rounded}
 use Rattle.elementary.proofs.Values.{unique, pattern, negative, field, digits, field-lt, at-top, at-zero, between}

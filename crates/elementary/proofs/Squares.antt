@@ -3,10 +3,9 @@
 use mathlib.Core.Path.{_≡_, refl, sym, ap, _∙_, subst}
 use mathlib.Core.Bool.{Bool, true, false, not, cond}
 use Prim.Native.Nat.{ℕ, zero, suc, _+_, _-_, _*_, _^_, _<_, _≤_}
-use native.Mathlib.Nat.{le-trans, le-antisymm, lt-of-le-of-lt, lt-of-lt-of-le, lt-irrefl, mul-le-mul, mul-mul-mul-comm, add-mul, mul-add, pow-succ'}
+use native.Mathlib.Nat.{le-trans, lt-of-lt-of-le, lt-irrefl, mul-le-mul, mul-mul-mul-comm, add-mul, mul-add, pow-succ'}
 use native.Mathlib.Omega.{arith}
-use lib.Dec.{T, ltb, ltb→lt, nltb→le, lit<, lit≤}
-use lib.Pow.{pow-pos}
+use lib.Dec.{T, ltb, ltb→lt, nltb→le, lit<}
 use Rattle.elementary.specs.Root.{digits, nearestRoot}
 
 -- g - 1/2 is below the root of n, and g + 1/2 above it

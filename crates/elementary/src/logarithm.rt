@@ -2,8 +2,8 @@
 use super::constants::nan;
 use super::convert::narrow;
 ghost use mathlib.Core.Path.{_≡_};
-ghost use Prim.Native.Nat.{_+_, _-_, _*_, _^_, _<_, _≤_};
-ghost use Rattle.elementary.specs.Notation.{_⧄_, one64, whole64};
+ghost use Prim.Native.Nat.{_*_, _^_, _<_, _≤_};
+ghost use Rattle.elementary.specs.Notation.{_⧄_, one64};
 ghost use Rattle.elementary.specs.Logarithm as Logarithm;
 ghost use Rattle.elementary.specs.Logarithm.{c31, significand, exponent};
 

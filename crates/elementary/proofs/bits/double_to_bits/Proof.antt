@@ -1,7 +1,7 @@
 -- `elementary::bits::double_to_bits` meets its contract, as `float_to_bits` does. Assumes nothing.
-use mathlib.Core.Path.{refl, sym, ap, _∙_}
+use mathlib.Core.Path.{sym, ap}
 use borrow.Author.Needs.{needs}
-use lib.Ieee.{nan, binary64, toBits}
+use lib.Ieee.{binary64, toBits}
 use Rattle.elementary.proofs.Values.{is-nan, equals-itself}
 use Rattle.elementary.proofs.bits.double_to_bits.Statement.{statement}
 use Rattle.elementary.proofs.bits.double_to_bits.Tie as tie

@@ -1,7 +1,7 @@
 -- `elementary::bits::float_to_bits` meets its contract: what differs from itself is the NaN, whose pattern the logic writes as the code does. Assumes nothing.
-use mathlib.Core.Path.{refl, sym, ap, _∙_}
+use mathlib.Core.Path.{sym, ap}
 use borrow.Author.Needs.{needs}
-use lib.Ieee.{nan, binary32, toBits}
+use lib.Ieee.{binary32, toBits}
 use Rattle.elementary.proofs.Values.{is-nan, equals-itself}
 use Rattle.elementary.proofs.bits.float_to_bits.Statement.{statement}
 use Rattle.elementary.proofs.bits.float_to_bits.Tie as tie

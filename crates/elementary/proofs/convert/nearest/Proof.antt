@@ -1,20 +1,18 @@
 -- `elementary::convert::nearest` meets its contract: each branch is an answer of `compare`, by which `lib.Ieee.nearest` goes. Assumes nothing.
 use mathlib.Core.Path.{_≡_, refl, sym, _∙_}
 use mathlib.Core.Bool.{true, false, true≢false, false≢true}
-use Prim.Native.Nat.{ℕ, suc, _+_, _*_, _%_, _^_, _<_, _≤_, compare, Ordering, Ordering·lt, Ordering·eq, Ordering·gt}
-use native.Mathlib.Nat.{div-le-self, mod-le, one-mul}
+use Prim.Native.Nat.{ℕ, suc, _+_, _*_, _/_, _%_, _^_, _<_, _≤_, compare, Ordering, Ordering·lt, Ordering·eq, Ordering·gt}
+use native.Mathlib.Nat.{div-le-self, mod-le}
 use native.Mathlib.Numerals.{add-one}
 use native.Mathlib.Omega.{arith}
 use borrow.Author.Needs.{needs}
 use borrow.Author.Tests.{le-leb, lt-leb, eq-eqb, ne-eqb}
-use lib.Dec.{isLe, isEq, lit<}
-use lib.Pow.{pow-pos, shl-exact}
+use lib.Dec.{isLe, isEq}
+use lib.Pow.{pow-pos}
 use lib.Ieee.{nearest}
+use Rattle.elementary.proofs.Lengths.{one-shifted}
 use Rattle.elementary.proofs.convert.nearest.Statement.{statement}
 use Rattle.elementary.proofs.convert.nearest.Tie as tie
-
-unit-is : (d : ℕ) → d < 54 → 1 * 2 ^ d % 2 ^ 64 ≡ 2 ^ d
-unit-is d h = shl-exact 1 d 64 (lit< tt) (omega arith) ∙ one-mul (2 ^ d)
 
 module _ (w a b : ℕ) where
   less : a < b → nearest w (compare a b) ≡ w
@@ -43,25 +41,13 @@ module _ (w a b : ℕ) where
 
 -- the unit as the machine has it
 unit : (c : tie.Start) → 1 * 2 ^ c .args .d % 2 ^ 64 ≡ 2 ^ c .args .d
-unit c = unit-is (c .args .d) (c .pre .1)
+unit c = one-shifted (c .args .d) 64 (omega arith)
 
-shl-unit : tie.Need-shl-unit
-shl-unit c = search needs
-
-shr-kept : tie.Need-shr-kept
-shr-kept c = search needs
-
-rem-twice : tie.Need-rem-twice
-rem-twice c = rw (unit c) (pow-pos (c .args .d))
+kept-le : (c : tie.Start) → c .args .q / 2 ^ c .args .d ≤ c .args .q
+kept-le c = div-le-self (c .args .q) (2 ^ c .args .d)
 
 mul-twice : tie.Need-mul-twice
 mul-twice c = omega (arith, mod-le (c .args .q) (1 * 2 ^ c .args .d % 2 ^ 64))
-
-add-result : tie.Need-add-result
-add-result c = let s = c .before .before in omega (arith, div-le-self (s .args .q) (2 ^ s .args .d))
-
-add-result-2 : tie.Need-add-result-2
-add-result-2 c = let s = c .before .before in omega (arith, div-le-self (s .args .q) (2 ^ s .args .d))
 
 returns : tie.Need-returns
 returns c = sym (less _ _ _ (rw (unit (c .before)) at (c .if1 .taken)))
@@ -78,4 +64,15 @@ returns-3 c =
     add-one _ ∙ sym (more _ _ _ g)
 
 pub nearest-spec : {M : Type 1} → statement M
-nearest-spec = tie.close (tie.spec shl-unit shr-kept rem-twice mul-twice add-result add-result-2 returns returns-2 returns-3)
+nearest-spec =
+    tie.close
+    (tie.spec
+    (λ c. search needs)
+    (λ c. search needs)
+    (λ c. rw (unit c) (pow-pos (c .args .d)))
+    mul-twice
+    (λ c. omega (arith, kept-le (c .before .before)))
+    (λ c. omega (arith, kept-le (c .before .before)))
+    returns
+    returns-2
+    returns-3)

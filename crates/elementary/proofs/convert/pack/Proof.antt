@@ -1,4 +1,4 @@
--- `elementary::convert::pack` meets its contract. 64 less the leading zeros is q's length (`lead-size`), and `Round.antt` says by that length what `round` keeps. Assumes nothing.
+-- `elementary::convert::pack` meets its contract. 64 less the leading zeros is q's length (`lead-size`), and `Rounding` says by that length what `round` keeps. Assumes nothing.
 use mathlib.Core.Path.{_≡_, sym, subst}
 use mathlib.Core.Bool.{Bool, cond}
 use mathlib.Core.Logic.{_⊎_, inl, inr}
@@ -15,119 +15,91 @@ use Rattle.elementary.proofs.Rounding.{Rounds, normal, subnormal, vanis
 use Rattle.elementary.proofs.convert.pack.Statement.{statement}
 use Rattle.elementary.proofs.convert.pack.Tie as tie
 
--- q's length as the machine works it out
-abbrev length : ℕ → ℕ
-length q = 64 - leadingZeros 64 q
+module _ (c : tie.Start) where
+  abbrev q : ℕ
+  q = c .args .q
 
-length-is : (q : ℕ) → q < 2 ^ 53 → length q ≡ size q
-length-is q h = omega (arith, lead-size 64 q (lt-of-lt-of-le h (lit≤ tt)))
+  abbrev j : ℕ
+  j = c .args .j
 
-module _ (q j : ℕ) (h : q < 2 ^ 53) (w : (j ≤ 925) ⊎ (2 ^ 52 ≤ q)) where
-  enough : 949 < length q + j → 24 ≤ length q
-  enough g = go w
+  -- q's length as the machine works it out
+  abbrev length : ℕ
+  length = 64 - leadingZeros 64 q
+
+  length-is : length ≡ size q
+  length-is = omega (arith, lead-size 64 q (lt-of-lt-of-le (c .pre .0) (lit≤ tt)))
+
+  -- a j above 925 comes with a q of 53 digits
+  long : (j ≤ 925) ⊎ (2 ^ 52 ≤ q) → (j ≤ 925) ⊎ (52 < length)
+  long (inl l) = inl l
+  long (inr l) = inr (omega (arith, length-is, size-gt q 52 l))
+
+  enough : 949 < length + j → 24 ≤ length
+  enough g = go (long (c .pre .1 .1))
     where
-      go : (j ≤ 925) ⊎ (2 ^ 52 ≤ q) → 24 ≤ length q
+      go : (j ≤ 925) ⊎ (52 < length) → 24 ≤ length
       go (inl l) = omega arith
-      go (inr l) = omega (arith, length-is q h, size-gt q 52 l)
+      go (inr l) = omega arith
 
-  few : length q + j ≤ 949 → j ≤ 925
-  few g = go w
+  few : length + j ≤ 949 → j ≤ 925
+  few g = go (long (c .pre .1 .1))
     where
-      go : (j ≤ 925) ⊎ (2 ^ 52 ≤ q) → j ≤ 925
+      go : (j ≤ 925) ⊎ (52 < length) → j ≤ 925
       go (inl l) = l
-      go (inr l) = omega (arith, length-is q h, size-gt q 52 l)
+      go (inr l) = omega arith
 
-  at-normal : 949 < length q + j → Rounds q j (length q - 24) (length q + j - 949)
-  at-normal g =
-      subst (λ (n : ℕ). 949 < n + j → 24 ≤ n → Rounds q j (n - 24) (n + j - 949)) (sym (length-is q h)) (normal q j) g (enough g)
+  at-normal : 949 < length + j → Rounds q j (length - 24) (length + j - 949)
+  at-normal g = subst (λ (n : ℕ). 949 < n + j → 24 ≤ n → Rounds q j (n - 24) (n + j - 949)) (sym length-is) (normal q j) g (enough g)
 
-  at-subnormal : length q + j ≤ 949 → Rounds q j (925 - j) 0
-  at-subnormal g = subnormal q j (subst (λ (n : ℕ). n + j ≤ 949) (length-is q h) g) (few g)
+  at-subnormal : length + j ≤ 949 → Rounds q j (925 - j) 0
+  at-subnormal g = subnormal q j (subst (λ (n : ℕ). n + j ≤ 949) length-is g) (few g)
 
   -- what the function ensures, where k is 0
-  alone : (r : ℕ) → Rounds q j (925 - j) 0 → r ≡ closest q (2 ^ (925 - j)) → (r ≤ 255 * 2 ^ 23) × ((s : Bool) → ofBits binary32 (cond s (2 ^ 31) 0 + r) ≡ round binary32 s (q * 2 ^ j) (2 ^ 1074))
-  alone r R e =
+  alone : (r : ℕ) → length + j ≤ 949 → r ≡ closest q (2 ^ (925 - j)) → (r ≤ 255 * 2 ^ 23) × ((s : Bool) → ofBits binary32 (cond s (2 ^ 31) 0 + r) ≡ round binary32 s (q * 2 ^ j) (2 ^ 1074))
+  alone r g e =
+      let R = at-subnormal g in
       let l : r ≤ 2 ^ 24 = kept-small q j (925 - j) 0 r R e in
       let z : 0 * 2 ^ 23 + r ≡ r = omega arith in
       (omega arith, λ s. subst (λ (n : ℕ). ofBits binary32 (cond s (2 ^ 31) 0 + n) ≡ round binary32 s (q * 2 ^ j) (2 ^ 1074)) z (in-range q j (925 - j) 0 r R e (omega arith) s))
 
-cast-size : tie.Need-cast-size
-cast-size c = omega (arith, leading-le 64 (c .args .q))
+-- the number that is kept in the normal range
+module _ (c : tie.After-nearest) where
+  abbrev start : tie.Start
+  start = c .before .before
 
-sub-size : tie.Need-sub-size
-sub-size c = leading-le 64 (c .args .q)
-
-add-if1 : tie.Need-add-if1
-add-if1 c = search needs
-
-add-r : tie.Need-add-r
-add-r c = search needs
-
-sub-r : tie.Need-sub-r
-sub-r c = search needs
-
-mul-r : tie.Need-mul-r
-mul-r c = search needs
-
-sub-nearest : tie.Need-sub-nearest
-sub-nearest c = let s = c .before in enough (s .args .q) (s .args .j) (s .pre .0) (s .pre .1 .1) (c .if1 .taken)
-
-nearest-requires : tie.Need-nearest-requires
-nearest-requires c κs = search needs
+  rounds : Rounds (q start) (j start) (length start - 24) (length start + j start - 949)
+  rounds = at-normal start (omega arith)
 
 add-r-2 : tie.Need-add-r-2
-add-r-2 c =
-    let s = c .before .before in
-    let R = at-normal (s .args .q) (s .args .j) (s .pre .0) (s .pre .1 .1) (c .before .if1 .taken) in
-    omega (arith, kept-small (s .args .q) (s .args .j) _ _ (c .nearest .result) R (c .nearest .ensures))
-
-sub-nearest-2 : tie.Need-sub-nearest-2
-sub-nearest-2 c = let s = c .before .before in few (s .args .q) (s .args .j) (s .pre .0) (s .pre .1 .1) (c .before .if1 .left)
-
-nearest-requires-2 : tie.Need-nearest-requires-2
-nearest-requires-2 c κs = search needs
+add-r-2 c = omega (arith, kept-small (q (start c)) (j (start c)) _ _ (c .nearest .result) (rounds c) (c .nearest .ensures))
 
 returns : tie.Need-returns
-returns c =
-    let n = c .before in
-    let s = n .before .before in
-    let R = at-normal (s .args .q) (s .args .j) (s .pre .0) (s .pre .1 .1) (n .before .if1 .taken) in
-    (omega arith, in-range (s .args .q) (s .args .j) _ _ (n .nearest .result) R (n .nearest .ensures) (c .if2 .taken))
+returns c = let n = c .before in (omega arith, in-range (q (start n)) (j (start n)) _ _ (n .nearest .result) (rounds n) (n .nearest .ensures) (c .if2 .taken))
 
 returns-2 : tie.Need-returns-2
-returns-2 c =
-    let n = c .before in
-    let s = n .before .before in
-    let R = at-normal (s .args .q) (s .args .j) (s .pre .0) (s .pre .1 .1) (n .before .if1 .taken) in
-    (lit≤ tt, out-of-range (s .args .q) (s .args .j) _ _ (n .nearest .result) R (n .nearest .ensures) (c .if2 .left))
+returns-2 c = let n = c .before in (lit≤ tt, out-of-range (q (start n)) (j (start n)) _ _ (n .nearest .result) (rounds n) (n .nearest .ensures) (c .if2 .left))
 
 returns-3 : tie.Need-returns-3
-returns-3 c =
-    let s = c .before .before in
-    let R = at-subnormal (s .args .q) (s .args .j) (s .pre .0) (s .pre .1 .1) (c .before .if1 .left) in
-    alone (s .args .q) (s .args .j) (s .pre .0) (s .pre .1 .1) 0 R (sym (vanishes (s .args .q) (925 - s .args .j) (s .pre .0) (omega arith)))
+returns-3 c = let s = c .before .before in alone s 0 (omega arith) (sym (vanishes (q s) (925 - j s) (s .pre .0) (omega arith)))
 
 returns-4 : tie.Need-returns-4
-returns-4 c =
-    let s = c .before .before .before in
-    let R = at-subnormal (s .args .q) (s .args .j) (s .pre .0) (s .pre .1 .1) (c .before .before .if1 .left) in
-    alone (s .args .q) (s .args .j) (s .pre .0) (s .pre .1 .1) (c .nearest2 .result) R (c .nearest2 .ensures)
+returns-4 c = alone (c .before .before .before) (c .nearest2 .result) (omega arith) (c .nearest2 .ensures)
 
 pub pack-spec : {M : Type 1} → statement M
 pack-spec =
     tie.close
     (tie.spec
-    cast-size
-    sub-size
-    add-if1
-    add-r
-    sub-r
-    mul-r
-    sub-nearest
-    nearest-requires
+    (λ c. omega (arith, leading-le 64 (c .args .q)))
+    (λ c. leading-le 64 (c .args .q))
+    (λ c. search needs)
+    (λ c. search needs)
+    (λ c. search needs)
+    (λ c. search needs)
+    (λ c. enough (c .before) (omega arith))
+    (λ c κs. search needs)
     add-r-2
-    sub-nearest-2
-    nearest-requires-2
+    (λ c. few (c .before .before) (omega arith))
+    (λ c κs. search needs)
     returns
     returns-2
     returns-3

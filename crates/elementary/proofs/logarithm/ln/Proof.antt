@@ -3,7 +3,7 @@
 use mathlib.Core.Path.{_≡_, refl, sym, ap, _∙_}
 use mathlib.Core.Bool.{Bool, false, cond, _&&_}
 use mathlib.Core.Logic.{⊎-elim}
-use Prim.Native.Nat.{ℕ, _+_, _-_, _*_, _^_, _<_, _≤_}
+use Prim.Native.Nat.{ℕ, _+_, _-_, _*_, _^_, _<_}
 use native.Mathlib.Nat.{le-trans, le-of-eq, lt-of-le-of-lt, mul-le-mul-right, le-add-right}
 use native.Mathlib.Omega.{arith}
 use borrow.Author.Needs.{needs}
@@ -38,22 +38,22 @@ module _ (c : tie.Then2) where
   inside : Inside x
   inside = record { low = c .before .if1 .taken; high = c .if2 .taken }
 
-  abbrev exp : ℕ
-  exp = field binary32 x held
+  abbrev k : ℕ
+  k = field binary32 x held
 
   abbrev units : ℕ
-  units = (2 ^ 23 + digits binary32 x held) * 2 ^ (exp - 1)
+  units = (2 ^ 23 + digits binary32 x held) * 2 ^ (k - 1)
 
-  normal : exp ≡ 0 → ⊥
+  normal : k ≡ 0 → ⊥
   normal e = omega (arith, inside-units x inside _ (subnormal-at binary32 x held (inside-positive x inside) e) .0)
 
   value : HasValue x false units (2 ^ 149)
   value = normal-at binary32 x held (inside-positive x inside) normal
 
-  small : exp - 1 < 126
+  small : k - 1 < 126
   small =
-      let l : 23 + (exp - 1) < 149 =
-      pow-lt-back (lt-of-le-of-lt (le-trans (le-of-eq (pow-add 2 23 (exp - 1))) (mul-le-mul-right (2 ^ (exp - 1)) (le-add-right (2 ^ 23) (digits binary32 x held)))) (inside-units x inside units value .1)) in
+      let l : 23 + (k - 1) < 149 =
+      pow-lt-back (lt-of-le-of-lt (le-trans (le-of-eq (pow-add 2 23 (k - 1))) (mul-le-mul-right (2 ^ (k - 1)) (le-add-right (2 ^ 23) (digits binary32 x held)))) (inside-units x inside units value .1)) in
       omega arith
 
 float-to-bits-bits : tie.Need-float-to-bits-bits

@@ -7,7 +7,7 @@ use native.Mathlib.Omega.{arith}
 use borrow.Author.Needs.{needs}
 use lib.Dec.{lit<, lit≤}
 use lib.Pow.{pow-pos}
-use lib.Ieee.{Float, binary64, size, round, neg, ofBits}
+use lib.Ieee.{Float, binary64, size, neg, ofBits}
 use lib.Ieee.Digits.{size-le}
 use lib.Ieee.Exact.{HasValue}
 use lib.Ieee.Scale.{round-same}

@@ -1,12 +1,13 @@
 -- `elementary::root::by_digits` meets its contract. The loop's invariant: the d digits that are left to set, from g on, give the root, and 24 digits hold it. Assumes nothing.
 use mathlib.Core.Path.{_≡_, refl, sym, ap, _∙_, subst}
 use Prim.Native.Nat.{ℕ, suc, _+_, _-_, _*_, _%_, _^_, _<_, _≤_}
-use native.Mathlib.Nat.{lt-of-le-of-lt, one-mul, mul-le-mul, pow-succ'}
+use native.Mathlib.Nat.{lt-of-le-of-lt, mul-le-mul, pow-succ'}
 use native.Mathlib.Omega.{arith}
 use borrow.Author.Tests.{lt-ltb, le-ltb}
 use lib.Dec.{lit<, lit≤}
-use lib.Pow.{pow-pos, shl-exact}
+use lib.Pow.{pow-pos}
 use Rattle.elementary.specs.Root.{digits, nearestRoot}
+use Rattle.elementary.proofs.Lengths.{one-shifted}
 use Rattle.elementary.proofs.Squares.{turn, none}
 use Rattle.elementary.proofs.root.by_digits.Statement.{statement}
 use Rattle.elementary.proofs.root.by_digits.Tie as tie
@@ -29,7 +30,7 @@ module _ (c : tie.In-loop Inv-loop μ-loop) where
   unit = 1 * 2 ^ (d - 1) % 2 ^ 64
 
   unit-is : unit ≡ 2 ^ (d - 1)
-  unit-is = shl-exact 1 (d - 1) 64 (lit< tt) (omega arith) ∙ one-mul (2 ^ (d - 1))
+  unit-is = one-shifted (d - 1) 64 (omega arith)
 
   halves : 2 ^ d ≡ 2 * unit
   halves =

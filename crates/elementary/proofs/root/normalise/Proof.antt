@@ -10,7 +10,7 @@ use lib.Pow.{shl-exact}
 use lib.Ieee.{size}
 use lib.Ieee.Digits.{size-lt, size-le}
 use Rattle.elementary.specs.Units.{unitsOf, Normalised}
-use Rattle.elementary.proofs.Lengths.{lead-size, size-gt}
+use Rattle.elementary.proofs.Lengths.{lead-size}
 use Rattle.elementary.proofs.Scaled.{subnormal, normal}
 use Rattle.elementary.proofs.root.normalise.Statement.{statement}
 use Rattle.elementary.proofs.root.normalise.Tie as tie

@@ -1,16 +1,14 @@
 -- `elementary::root::sqrt` meets its contract: each return is the case of `sqrt` that the tests on the way say, and what is nearest to the root follows from the equation alone (`root-of-equation`). Assumes nothing.
-use mathlib.Core.Path.{_≡_, refl, sym, ap, _∙_, subst}
-use mathlib.Core.Bool.{Bool, false, not}
-use Prim.Native.Nat.{ℕ, suc, _*_, _/_, _%_, _^_, _<_}
+use mathlib.Core.Path.{_≡_, refl, sym, ap, _∙_}
+use mathlib.Core.Bool.{Bool, not}
+use Prim.Native.Nat.{suc, _/_, _%_, _^_}
 use native.Mathlib.Nat.{zero-lt-suc}
 use native.Mathlib.Omega.{arith}
 use borrow.Author.Needs.{needs}
 use denote.Floats.{passes}
-use lib.Dec.{T, lt→ltb, lit<}
-use lib.Pow.{pow-pos}
+use lib.Dec.{T, lt→ltb}
 use lib.Ieee.{Float, nan, inf, binary32, fits, isNan, toBits}
-use lib.Ieee.Exact.{HasValue}
-use lib.Ieee.Positive.{positive, value-pos}
+use lib.Ieee.Positive.{positive}
 use Rattle.elementary.specs.Root.{sqrt, Root}
 use Rattle.elementary.proofs.Values.{is-nan, equals-itself, negative, at-top}
 use Rattle.elementary.proofs.Signs.{Below, inf-below, fin-below, Level, level-at, Other, nan-other, inf-other, fin-other, below, level, other}

@@ -1,10 +1,9 @@
 -- `elementary::sign::abs` meets its contract: below zero the sign is set, at a zero of either sign the value is +0, and any other value has its sign clear. Assumes nothing.
-use mathlib.Core.Path.{_≡_, refl, sym, ap, _∙_}
-use mathlib.Core.Bool.{Bool, true, false}
-use Prim.Native.Nat.{ℕ, _*_, _^_}
+use mathlib.Core.Path.{_≡_, refl}
+use mathlib.Core.Bool.{false}
 use native.Mathlib.Nat.{zero-mul}
 use lib.Dec.{T}
-use lib.Ieee.{Float, fin, binary32, down, fits, neg, ofBits}
+use lib.Ieee.{Float, fin, binary32, fits, neg, ofBits}
 use denote.Floats.{passes}
 use Rattle.elementary.specs.Notation.{lit}
 use Rattle.elementary.specs.Sign.{abs}
