@@ -38,6 +38,10 @@ size-shifted q j P =
     let hi : size (q * 2 ^ j) ≤ size q + j = size-le (q * 2 ^ j) (size q + j) (shl-lt (size q) j (size-lt q)) in
     omega arith
 
+-- with a q of 24 digits
+pub size-normal : (q j : ℕ) → 2 ^ 23 ≤ q → q < 2 ^ 24 → size (q * 2 ^ j) ≡ 24 + j
+size-normal q j l h = size-shifted q j (lt-of-lt-of-le (lit< tt) l) ∙ omega (arith, size-gt q 23 l, size-le q 24 h)
+
 -- the length of q * 2 ^ a / 2 ^ b
 pub shifted-le : (q a b z m : ℕ) → q < 2 ^ z → z + a ≤ m + b → size (q * 2 ^ a / 2 ^ b) ≤ m
 shifted-le q a b z m h l =

@@ -1,16 +1,22 @@
--- Laws that belong to no one function.
+-- Laws that belong to no one function. The public ones are for the crates above, too.
+
+-- values, their patterns and their sizes
 pub mod Values
 pub mod Patterns
+pub mod Magnitude
 pub mod Signs
 pub mod Lengths
+-- rounding and quotients
 pub mod Rounded
 pub mod Monotone
 pub mod Quotients
-pub mod Magnitude
 mod Rounding
-mod Inside
+-- the root
 pub mod Squares
+pub mod Nearest
 mod Scaled
+-- the logarithm
+pub mod Inside
+-- by computation
 pub mod Literals
 pub mod Examples
-pub mod Nearest

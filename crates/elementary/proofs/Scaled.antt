@@ -14,7 +14,7 @@ use lib.Ieee.Exact.{HasValue, units-val}
 use lib.Ieee.Positive.{first-pos}
 use Rattle.elementary.specs.Units.{Normalised}
 use Rattle.elementary.specs.Root.{nearestRoot, rootOf, NearestRoot}
-use Rattle.elementary.proofs.Lengths.{size-gt, size-shifted, two-pows}
+use Rattle.elementary.proofs.Lengths.{size-gt, size-shifted, size-normal, two-pows}
 use Rattle.elementary.proofs.Patterns.{packed}
 use Rattle.elementary.proofs.Values.{scale-value}
 use Rattle.elementary.proofs.Squares.{nearest-lt, nearest-ge, nearest-between}
@@ -91,9 +91,8 @@ module _ (a q length : ℕ) (N : Normalised a q length) where
 
   length-is : size a ≡ length
   length-is =
-      let P : 0 < q = lt-of-lt-of-le (lit< tt) (N .low) in
-      let A : 0 < a = first-pos a (2 ^ 24) (subst (λ (z : ℕ). 0 < z) (sym (N .is)) (mul-pos P (pow-pos length))) in
-      omega (arith, size-shifted a 24 A, size-shifted q length P, ap size (N .is), size-gt q 23 (N .low), size-le q 24 (N .high))
+      let A : 0 < a = first-pos a (2 ^ 24) (subst (λ (z : ℕ). 0 < z) (sym (N .is)) (mul-pos (lt-of-lt-of-le (lit< tt) (N .low)) (pow-pos length))) in
+      omega (arith, size-shifted a 24 A, ap size (N .is), size-normal q length (N .low) (N .high))
 
   rescaled : a * 2 ^ 149 ≡ scaled q length * 2 ^ (2 * power length)
   rescaled =

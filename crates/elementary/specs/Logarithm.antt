@@ -28,7 +28,7 @@ lnSeries m e =
     let h = odds 15 (s ⊠ s) (one64 ⧄ c31) in
     narrow (e ⊠ ln2 ⊞ two ⊠ s ⊠ h)
 
--- a units of 2 ^ -149 are m * 2 ^ e: a has `size a` digits, so m = a / 2 ^ (size a - 1) and e = size a - 150, which is negative below 1. Both are exact.
+-- a units of 2 ^ -149 are m * 2 ^ e: a has `size a` binary digits, so m = a / 2 ^ (size a - 1) and e = size a - 150, which is negative below 1. Both are exact (`ln-parts` of proofs/Inside).
 abbrev pub significand : ℕ → Float
 significand a = round binary64 false a (2 ^ (size a - 1))
 

@@ -1,24 +1,20 @@
--- `elementary::logarithm::ln` meets its contract. `Inside` has what the two tests say of x, and `Values` what x is by the parts of its pattern:
--- 2 ^ 23 units at least leave no room for a field of 0, and fewer than 2 ^ 149 units none for a field of 127. Assumes nothing.
+-- `elementary::logarithm::ln` meets its contract: `Inside` has what the two tests say of x and of the parts of its pattern. Assumes nothing.
 use mathlib.Core.Path.{_≡_, refl, sym, ap, _∙_}
-use mathlib.Core.Bool.{Bool, false, cond, _&&_}
+use mathlib.Core.Bool.{Bool, cond, _&&_}
 use mathlib.Core.Logic.{⊎-elim}
-use Prim.Native.Nat.{ℕ, _+_, _-_, _*_, _^_, _<_}
-use native.Mathlib.Nat.{le-trans, le-of-eq, lt-of-le-of-lt, mul-le-mul-right, le-add-right}
+use Prim.Native.Nat.{ℕ, _^_}
+use native.Mathlib.Nat.{le-add-right}
 use native.Mathlib.Omega.{arith}
 use borrow.Author.Needs.{needs}
 use denote.Floats.{passes}
 use lib.Dec.{T}
-use lib.Pow.{pow-add}
 use lib.Ieee.{Float, nan, binary32, fits, lt, le}
-use lib.Ieee.Exact.{HasValue}
 use Rattle.elementary.specs.Notation.{lit}
 use Rattle.elementary.specs.Units.{mag}
 use Rattle.elementary.specs.Logarithm.{significand, exponent, lnSeries, ln}
-use Rattle.elementary.proofs.Values.{field, digits, number, subnormal-at, normal-at}
-use Rattle.elementary.proofs.Lengths.{pow-lt-back}
+use Rattle.elementary.proofs.Values.{number}
 use Rattle.elementary.proofs.Magnitude.{mag-at}
-use Rattle.elementary.proofs.Inside.{Inside, inside-positive, inside-units}
+use Rattle.elementary.proofs.Inside.{Inside, inside-positive, normal-field, value, field-below}
 use Rattle.elementary.proofs.logarithm.ln.Statement.{statement}
 use Rattle.elementary.proofs.logarithm.ln.Tie as tie
 
@@ -38,37 +34,19 @@ module _ (c : tie.Then2) where
   inside : Inside x
   inside = record { low = c .before .if1 .taken; high = c .if2 .taken }
 
-  abbrev k : ℕ
-  k = field binary32 x held
-
-  abbrev units : ℕ
-  units = (2 ^ 23 + digits binary32 x held) * 2 ^ (k - 1)
-
-  normal : k ≡ 0 → ⊥
-  normal e = omega (arith, inside-units x inside _ (subnormal-at binary32 x held (inside-positive x inside) e) .0)
-
-  value : HasValue x false units (2 ^ 149)
-  value = normal-at binary32 x held (inside-positive x inside) normal
-
-  small : k - 1 < 126
-  small =
-      let l : 23 + (k - 1) < 149 =
-      pow-lt-back (lt-of-le-of-lt (le-trans (le-of-eq (pow-add 2 23 (k - 1))) (mul-le-mul-right (2 ^ (k - 1)) (le-add-right (2 ^ 23) (digits binary32 x held)))) (inside-units x inside units value .1)) in
-      omega arith
-
 float-to-bits-bits : tie.Need-float-to-bits-bits
 float-to-bits-bits c = number (x c) (inside-positive (x c) (inside c))
 
 sub-ln-of : tie.Need-sub-ln-of
-sub-ln-of c = omega (arith, normal c)
+sub-ln-of c = omega (arith, normal-field (x c) (held c) (inside c))
 
 ln-of-requires : tie.Need-ln-of-requires
-ln-of-requires c κs = (le-add-right (2 ^ 23) _, (omega arith, small c))
+ln-of-requires c κs = (le-add-right (2 ^ 23) _, (omega arith, field-below (x c) (held c) (inside c)))
 
 returns : tie.Need-returns
 returns c =
     let t = c .before in
-    c .ln-of .ensures ∙ ap (λ (a : ℕ). lnSeries (significand a) (exponent a)) (sym (mag-at (x t) _ (units t) (value t))) ∙ at (x t) (t .before .if1 .taken) (t .if2 .taken)
+    c .ln-of .ensures ∙ ap (λ (a : ℕ). lnSeries (significand a) (exponent a)) (sym (mag-at (x t) _ _ (value (x t) (held t) (inside t)))) ∙ at (x t) (t .before .if1 .taken) (t .if2 .taken)
 
 returns-2 : tie.Need-returns-2
 returns-2 c = c .nan .ensures ∙ ⊎-elim (λ w. at _ (w .0 .taken) (w .1 .left)) (λ w. at _ (w .left) refl) (c .before .if1 .came)
