@@ -1,5 +1,5 @@
 -- The nearest whole number to a root, by squares: `nearestRoot n` is the one g with 4 * n between the squares of 2 * g - 1 and 2 * g + 1 (`nearest-between`, `between-unique`).
--- The digits are set while the square stays below 4 * n, and at the end it would not with one more (`digits-between`). Assumes nothing.
+-- The digits are set while the square stays below 4 * n, and at the end it would not with one more (`digits-end`). Assumes nothing.
 use mathlib.Core.Path.{_≡_, refl, sym, ap, _∙_, subst}
 use mathlib.Core.Bool.{Bool, true, false, not, cond}
 use Prim.Native.Nat.{ℕ, zero, suc, _+_, _-_, _*_, _^_, _<_, _≤_}
