@@ -1,19 +1,58 @@
 -- What `round binary32` does with q * 2 ^ j / 2 ^ 1074, which is how an `f64` reads: it drops d digits of q, and keeps the nearest whole number `closest q (2 ^ d)`.
 -- By q's length z in digits d is z - 24 (`normal`), or 925 - j where the result is below the smallest normal `f32` (`subnormal`). Assumes nothing.
 use mathlib.Core.Path.{_≡_, refl, sym, ap, _∙_, subst}
-use mathlib.Core.Bool.{Bool, cond}
+use mathlib.Core.Bool.{Bool, not, cond}
 use mathlib.Core.Logic.{inl, inr}
-use Prim.Native.Nat.{ℕ, _+_, _-_, _*_, _/_, _%_, _^_, _<_, _≤_, compare}
-use native.Mathlib.Nat.{le-trans, le-of-eq, le-of-lt, lt-of-lt-of-le, mul-le-mul-right, mul-le-mul-left, mul-pos, le-div-iff-mul-le}
+use Prim.Native.Nat.{ℕ, zero, suc, _+_, _-_, _*_, _/_, _%_, _^_, _<_, _≤_, compare, Ordering, Ordering·lt, Ordering·eq, Ordering·gt}
+use native.Mathlib.Nat.{le-trans, le-of-eq, le-of-lt, lt-of-lt-of-le, mul-le-mul-right, mul-le-mul-left, mul-pos, suc-mul, mod-lt, div-add-mod', le-div-iff-mul-le}
 use native.Mathlib.Omega.{arith}
 use lib.Pow.{pow-add, pow-pos, pow-mono, shr-lt}
-use lib.Arith.{le-zero}
-use lib.Ieee.{binary32, size, units, round, ofBits}
+use lib.Dec.{T, isLe, isEq, leb→le, nleb→lt, eqb→eq, lit<}
+use lib.Arith.{le-zero, digits-div}
+use lib.Ieee.{binary32, size, units, nearest, round, ofBits}
 use lib.Ieee.Digits.{size-lt, size-reaches}
-use lib.Ieee.Fits.{core, round-is, nearest-le}
+use lib.Ieee.Fits.{core, round-is, nearest-le, eq→eqb}
 use lib.Ieee.Nearest.{closest, closest-same, closest-mono, nearest-ge}
 use Rattle.elementary.proofs.Lengths.{shifted-le, shifted-gt, two-pows}
 use Rattle.elementary.proofs.Patterns.{Kept, packed, past, infinite}
+
+-- ---- the nearest whole number to q / (2 * h), a tie to the even one, by a sum and one division
+
+quotient : (n w u r : ℕ) → n ≡ w * u + r → r < u → n / u ≡ w
+quotient n w u r e h = ap (λ (z : ℕ). z / u) e ∙ digits-div w h
+
+pub closest-sum : (q h : ℕ) → 0 < h → (q + (h - 1) + q / (2 * h) % 2) / (2 * h) ≡ closest q (2 * h)
+closest-sum q h H = go (compare (r * 2) u) (leb→le (r * 2) u) (nleb→lt (r * 2) u) (eqb→eq (r * 2) u) (λ e. eq→eqb e)
+  where
+    u : ℕ
+    u = 2 * h
+
+    w : ℕ
+    w = q / u
+
+    r : ℕ
+    r = q % u
+
+    whole : w * u + r ≡ q
+    whole = div-add-mod' q u
+
+    small : r < u
+    small = mod-lt q (mul-pos (lit< tt) H)
+
+    next : suc w * u ≡ w * u + u
+    next = suc-mul w u
+
+    sum : ℕ
+    sum = q + (h - 1) + w % 2
+
+    even-or-odd : (b : ℕ) → w % 2 ≡ b → r * 2 ≡ u → sum / u ≡ w + w % 2
+    even-or-odd zero e t = quotient sum w u (h + (h - 1)) (omega (arith, whole)) (omega arith) ∙ omega arith
+    even-or-odd (suc b) e t = quotient sum (suc w) u 0 (omega (arith, whole, next)) (omega arith) ∙ omega arith
+
+    go : (o : Ordering) → (T (isLe o) → r * 2 ≤ u) → (T (not (isLe o)) → u < r * 2) → (T (isEq o) → r * 2 ≡ u) → (r * 2 ≡ u → T (isEq o)) → sum / u ≡ nearest w o
+    go Ordering·lt l g e n = quotient sum w u (r + (h - 1) + w % 2) (omega (arith, whole)) (omega (arith, l tt, n))
+    go Ordering·eq l g e n = even-or-odd (w % 2) refl (e tt)
+    go Ordering·gt l g e n = quotient sum (suc w) u (r + (h - 1) + w % 2 - u) (omega (arith, whole, next, g tt)) (omega (arith, small))
 
 -- ---- the rounding, in q's own digits
 

@@ -15,28 +15,21 @@ pub fn widen(x: f32) -> f64
     std::num::f32_to_f64_with_nan(x)
 }
 
-// q / 2 ^ d to the nearest whole number, a tie to the even one.
+// q / 2 ^ d to the nearest whole number, a tie to the even one: half a unit is added and the rest
+// cut off, and where the whole part is even half a unit less one, so that a tie falls back to it.
 fn nearest(q: u64, d: u64) -> u64
-    requires { ⌜ q < 2 ^ 53 ⌝ ∗ ⌜ d < 54 ⌝ }
+    requires { ⌜ q < 2 ^ 53 ⌝ ∗ ⌜ 0 < d ⌝ ∗ ⌜ d < 54 ⌝ }
     ensures { λ r. ⌜ r ≡ closest q (2 ^ d) ⌝ }
 {
-    let unit = 1u64 << d;
-    let kept = q >> d;
-    let twice = q % unit * 2;
-    if twice < unit {
-        kept
-    } else if twice == unit {
-        kept + kept % 2
-    } else {
-        kept + 1
-    }
+    let half = 1u64 << (d - 1);
+    (q + (half - 1) + (q >> d) % 2) >> d
 }
 
 // The pattern, without its sign, of the `f32` nearest to q * 2 ^ j / 2 ^ 1074: k * 2 ^ 23 + kept,
 // where kept * 2 ^ k is the rounded magnitude in units of 2 ^ -149. The leading digit of kept adds
 // one to the exponent's field, and a carry out of the rounding moves on into it.
 fn pack(q: u64, j: u64) -> u64
-    requires { ⌜ q < 2 ^ 53 ⌝ ∗ ⌜ j < 2046 ⌝ ∗ ⌜ (j ≤ 925) ⊎ (2 ^ 52 ≤ q) ⌝ }
+    requires { ⌜ q < 2 ^ 53 ⌝ ∗ ⌜ j < 2046 ⌝ ∗ ⌜ (j ≡ 0) ⊎ (2 ^ 52 ≤ q) ⌝ }
     ensures { λ r. ⌜ (r ≤ 0x7f80_0000) × ((s : Bool) → ofBits binary32 (cond s (2 ^ 31) 0 + r) ≡ round binary32 s (q * 2 ^ j) (2 ^ 1074)) ⌝ }
 {
     let size = 64 - (u64::leading_zeros(q) as u64);

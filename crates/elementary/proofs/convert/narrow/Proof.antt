@@ -1,5 +1,5 @@
 -- `elementary::convert::narrow` meets its contract: the laws of `Values` say what x is by its pattern's parts, and `pack` what the pattern of the result is. Assumes nothing.
-use mathlib.Core.Path.{_≡_, sym, ap, _∙_}
+use mathlib.Core.Path.{_≡_, refl, sym, ap, _∙_}
 use mathlib.Core.Logic.{inl, inr}
 use mathlib.Core.Bool.{Bool, true, false, not, cond}
 use Prim.Native.Nat.{ℕ, _+_, _*_, _/_, _^_, _<_, _≤_}
@@ -59,7 +59,7 @@ returns-2 c =
     c .signed .ensures ∙ stamp s _ ∙ infinite (minus s) ∙ sym (rounded-inf binary32 (minus s)) ∙ ap Convert.narrow (sym (at-top binary64 (x s) (held s) (c .before .if2 .taken) (number e)))
 
 pack-requires : tie.Need-pack-requires
-pack-requires c κs = (omega arith, (lit< tt, inl (lit≤ tt)))
+pack-requires c κs = (omega arith, (lit< tt, inl refl))
 
 signed-requires-2 : tie.Need-signed-requires-2
 signed-requires-2 c κs = (omega (arith, bits-lt (c .before .before .before .before)), c .pack .ensures .0)

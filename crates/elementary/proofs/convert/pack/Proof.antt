@@ -29,30 +29,30 @@ module _ (c : tie.Start) where
   length-is : length ≡ size q
   length-is = omega (arith, lead-size 64 q (lt-of-lt-of-le (c .pre .0) (lit≤ tt)))
 
-  -- a j above 925 comes with a q of 53 digits
-  long : (j ≤ 925) ⊎ (2 ^ 52 ≤ q) → (j ≤ 925) ⊎ (52 < length)
+  -- a j above 0 comes with a q of 53 digits
+  long : (j ≡ 0) ⊎ (2 ^ 52 ≤ q) → (j ≡ 0) ⊎ (52 < length)
   long (inl l) = inl l
   long (inr l) = inr (omega (arith, length-is, size-gt q 52 l))
 
-  enough : 949 < length + j → 24 ≤ length
+  enough : 949 < length + j → 25 ≤ length
   enough g = go (long (c .pre .1 .1))
     where
-      go : (j ≤ 925) ⊎ (52 < length) → 24 ≤ length
+      go : (j ≡ 0) ⊎ (52 < length) → 25 ≤ length
       go (inl l) = omega arith
       go (inr l) = omega arith
 
-  few : length + j ≤ 949 → j ≤ 925
+  few : length + j ≤ 949 → j ≤ 896
   few g = go (long (c .pre .1 .1))
     where
-      go : (j ≤ 925) ⊎ (52 < length) → j ≤ 925
-      go (inl l) = l
+      go : (j ≡ 0) ⊎ (52 < length) → j ≤ 896
+      go (inl l) = omega arith
       go (inr l) = omega arith
 
   at-normal : 949 < length + j → Rounds q j (length - 24) (length + j - 949)
-  at-normal g = subst (λ (n : ℕ). 949 < n + j → 24 ≤ n → Rounds q j (n - 24) (n + j - 949)) (sym length-is) (normal q j) g (enough g)
+  at-normal g = subst (λ (n : ℕ). 949 < n + j → 24 ≤ n → Rounds q j (n - 24) (n + j - 949)) (sym length-is) (normal q j) g (omega (arith, enough g))
 
   at-subnormal : length + j ≤ 949 → Rounds q j (925 - j) 0
-  at-subnormal g = subnormal q j (subst (λ (n : ℕ). n + j ≤ 949) length-is g) (few g)
+  at-subnormal g = subnormal q j (subst (λ (n : ℕ). n + j ≤ 949) length-is g) (omega (arith, few g))
 
   -- what the function ensures, where k is 0
   alone : (r : ℕ) → length + j ≤ 949 → r ≡ closest q (2 ^ (925 - j)) → (r ≤ 255 * 2 ^ 23) × ((s : Bool) → ofBits binary32 (cond s (2 ^ 31) 0 + r) ≡ round binary32 s (q * 2 ^ j) (2 ^ 1074))
@@ -95,11 +95,11 @@ pack-spec =
     (λ c. search needs)
     (λ c. search needs)
     (λ c. search needs)
-    (λ c. enough (c .before) (omega arith))
-    (λ c κs. search needs)
+    (λ c. omega (arith, enough (c .before) (omega arith)))
+    (λ c κs. (c .before .pre .0, (omega (arith, enough (c .before) (omega arith)), omega arith)))
     add-r-2
-    (λ c. few (c .before .before) (omega arith))
-    (λ c κs. search needs)
+    (λ c. omega (arith, few (c .before .before) (omega arith)))
+    (λ c κs. (c .before .before .pre .0, (omega (arith, few (c .before .before) (omega arith)), omega arith)))
     returns
     returns-2
     returns-3
