@@ -1,5 +1,5 @@
--- A number's length in binary digits, `size`: by its leading zeros, of a shifted number, and of a quotient by a power of two. Assumes nothing.
-use mathlib.Core.Path.{_≡_, sym, ap, _∙_}
+-- A number's length in binary digits, `size`: by its leading zeros, of a shifted number, and of a quotient by a power of two; and powers of two as a machine's word has them. Assumes nothing.
+use mathlib.Core.Path.{_≡_, sym, ap, _∙_, subst}
 use Prim.Native.Nat.{ℕ, zero, suc, _+_, _-_, _*_, _/_, _%_, _^_, _<_, _≤_}
 use native.Mathlib.Nat.{one-mul, le-trans, le-of-eq, lt-of-lt-of-le, lt-of-not-le, not-le-of-lt, mul-assoc, mul-le-mul-right, pow-succ', div-lt-iff-lt-mul, le-div-iff-mul-le}
 use native.Mathlib.Omega.{arith}
@@ -60,6 +60,18 @@ two-pows q a b = mul-assoc q (2 ^ a) (2 ^ b) ∙ ap (λ (n : ℕ). q * n) (sym (
 pub pow-lt-back : {i j : ℕ} → 2 ^ i < 2 ^ j → i < j
 pow-lt-back h = lt-of-not-le (λ g. not-le-of-lt h (pow-mono g))
 
--- `1 << d` of a machine's word
-pub one-shifted : (d w : ℕ) → d < w → 1 * 2 ^ d % 2 ^ w ≡ 2 ^ d
-one-shifted d w h = shl-exact 1 d w (lit< tt) (omega arith) ∙ one-mul (2 ^ d)
+-- `1 << (d - 1)` of a machine's word: half of 2 ^ d
+pub record Half (d u : ℕ) : Type 0 where
+  pub is : u ≡ 2 ^ (d - 1)
+  pub some : 0 < u
+  pub twice : 2 * u ≡ 2 ^ d
+
+pub half-shifted : (d w : ℕ) → 0 < d → d ≤ w → Half d (1 * 2 ^ (d - 1) % 2 ^ w)
+half-shifted d w D h =
+    let e = shl-exact 1 (d - 1) w (lit< tt) (omega arith) ∙ one-mul (2 ^ (d - 1)) in
+    let s : suc (d - 1) ≡ d = omega arith in
+    record {
+      is = e;
+      some = subst (λ (n : ℕ). 0 < n) (sym e) (pow-pos (d - 1));
+      twice = ap (λ (n : ℕ). 2 * n) e ∙ sym (pow-succ' 2 (d - 1)) ∙ ap (λ (n : ℕ). 2 ^ n) s;
+    }

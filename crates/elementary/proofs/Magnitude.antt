@@ -1,9 +1,10 @@
--- The size of x in units of 2 ^ -149: `mag x` is whatever number of units x is said to have (`mag-at`), and by the parts of its pattern x has `unitsOf` them (`units-at`). Assumes nothing.
-use mathlib.Core.Path.{_≡_, refl, ap, _∙_, subst}
+-- The size of x in units of 2 ^ -149: `mag x` is whatever number of units x is said to have (`mag-at`), a finite binary32 x has exactly `mag x` of them (`mag-exact`), and by the parts of its pattern x has `unitsOf` them (`units-at`). Assumes nothing.
+use mathlib.Core.Path.{_≡_, refl, sym, ap, _∙_, subst}
 use mathlib.Core.Bool.{Bool, false}
 use Prim.Native.Nat.{ℕ, zero, suc, _+_, _-_, _*_, _/_, _^_, _<_}
 use native.Mathlib.Nat.{mul-div-cancel, mul-one}
 use native.Mathlib.Omega.{arith}
+use lib.IntN.{ℤ}
 use lib.Dec.{T}
 use lib.Pow.{pow-pos}
 use lib.Ieee.{Float, nan, inf, fin, binary32, fits, down}
@@ -11,13 +12,19 @@ use lib.Ieee.Fits.{down-pos}
 use lib.Ieee.Exact.{HasValue}
 use lib.Ieee.Positive.{positive, value-pos}
 use Rattle.elementary.specs.Units.{mag, unitsOf}
-use Rattle.elementary.proofs.Values.{pattern, field, digits, field-lt, not-top, subnormal-at, normal-at}
+use Rattle.elementary.proofs.Values.{pattern, field, digits, field-lt, not-top, finite-units, subnormal-at, normal-at}
 
 pub mag-at : (x : Float) (s : Bool) (a : ℕ) → HasValue x s a (2 ^ 149) → mag x ≡ a
 unfolding mag
 mag-at nan s a v = absurd v
 mag-at (inf t) s a v = absurd v
 mag-at (fin t m e) s a v = ap (λ (n : ℕ). n / down e) (v .1) ∙ mul-div-cancel a (down-pos e)
+
+-- of a binary32 value the division in `mag` leaves no remainder
+pub mag-exact : (s : Bool) (m : ℕ) (e : ℤ) → T (fits binary32 (fin s m e)) → HasValue (fin s m e) s (mag (fin s m e)) (2 ^ 149)
+mag-exact s m e F =
+    let u = finite-units binary32 s m e F in
+    subst (λ (a : ℕ). HasValue (fin s m e) s a (2 ^ 149)) (sym (mag-at (fin s m e) s (u .0 * 2 ^ u .1) (u .4))) (u .4)
 
 -- ---- a finite x above zero, by the parts of its pattern
 

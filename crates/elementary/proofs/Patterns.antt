@@ -4,7 +4,7 @@ use mathlib.Core.Path.{_≡_, refl, sym, ap, _∙_, subst}
 use mathlib.Core.Bool.{Bool, true, false, not, cond}
 use mathlib.Core.Logic.{_⊎_, inl, inr}
 use Prim.Native.Nat.{ℕ, suc, _+_, _-_, _*_, _/_, _%_, _^_, _<_, _≤_}
-use native.Mathlib.Nat.{le-trans, le-of-eq, lt-of-lt-of-le, lt-of-le-of-lt, eq-or-lt-of-le, not-le-of-lt, mul-le-mul-right, mul-assoc, pow-succ'}
+use native.Mathlib.Nat.{le-trans, le-of-eq, lt-of-lt-of-le, lt-of-le-of-lt, eq-or-lt-of-le, not-le-of-lt, mul-le-mul-right, mul-assoc, pow-succ', zero-add}
 use native.Mathlib.Omega.{arith}
 use lib.Dec.{T, leb, ltb, le→leb, lt→ltb, not-T, leb→le, nleb→lt, ltb→lt, lit<, lit≤}
 use lib.Pow.{pow-add, pow-mono, pow-lt, shl-lt}
@@ -26,34 +26,19 @@ le-or-lt a b = go (leb a b) (leb→le a b) (nleb→lt a b)
 same : {s s′ : Bool} {x x′ t t′ : ℕ} → s ≡ s′ → x ≡ x′ → t ≡ t′ → ofFields binary32 s x t ≡ ofFields binary32 s′ x′ t′
 same p q r = λ i. ofFields binary32 (p i) (q i) (r i)
 
-module _ (x t : ℕ) (X : x < 256) (H : t < 8388608) where
-  low-exp : (x * 8388608 + t) % 2147483648 / 8388608 ≡ x
-  low-exp = omega arith
-
-  low-digits : (x * 8388608 + t) % 8388608 ≡ t
-  low-digits = omega arith
-
-  high-exp : (2147483648 + (x * 8388608 + t)) % 2147483648 / 8388608 ≡ x
-  high-exp = omega arith
-
-  high-digits : (2147483648 + (x * 8388608 + t)) % 8388608 ≡ t
-  high-digits = omega arith
-
-  under : 2147483648 ≤ x * 8388608 + t → ⊥
-  under h = omega arith
-
-  over : 2147483648 ≤ 2147483648 + (x * 8388608 + t)
-  over = omega arith
-
-zero-plus : (n : ℕ) → 0 + n ≡ n
-zero-plus n = omega arith
-
 pub fields : (s : Bool) (x t : ℕ) → x < 256 → t < 2 ^ 23 → ofBits binary32 (cond s (2 ^ 31) 0 + (x * 2 ^ 23 + t)) ≡ ofFields binary32 s x t
 unfolding ofBits
-fields true x t X H = same (is-true (leb (2 ^ 31) (2 ^ 31 + (x * 2 ^ 23 + t))) (le→leb (2 ^ 31) (2 ^ 31 + (x * 2 ^ 23 + t)) (over x t X H))) (high-exp x t X H) (high-digits x t X H)
+fields true x t X H =
+    let n = 2 ^ 31 + (x * 2 ^ 23 + t) in
+    let field : n % 2 ^ 31 / 2 ^ 23 ≡ x = omega arith in
+    let digits : n % 2 ^ 23 ≡ t = omega arith in
+    same (is-true (leb (2 ^ 31) n) (le→leb (2 ^ 31) n (omega arith))) field digits
 fields false x t X H =
-    ap (ofBits binary32) (zero-plus (x * 2 ^ 23 + t))
-    ∙ same (is-false (leb (2 ^ 31) (x * 2 ^ 23 + t)) (not-T (leb (2 ^ 31) (x * 2 ^ 23 + t)) (λ u. under x t X H (leb→le (2 ^ 31) (x * 2 ^ 23 + t) u)))) (low-exp x t X H) (low-digits x t X H)
+    let n = x * 2 ^ 23 + t in
+    let under : 2 ^ 31 ≤ n → ⊥ = λ h. omega arith in
+    let field : n % 2 ^ 31 / 2 ^ 23 ≡ x = omega arith in
+    let digits : n % 2 ^ 23 ≡ t = omega arith in
+    ap (ofBits binary32) (zero-add n) ∙ same (is-false (leb (2 ^ 31) n) (not-T (leb (2 ^ 31) n) (λ u. under (leb→le (2 ^ 31) n u)))) field digits
 
 -- ---- the value
 

@@ -1,16 +1,17 @@
 -- A float by its value. Two values that a format holds are equal if they have the same pattern (`same-bits`), and so if they have the same sign and the same size (`unique`).
--- What an exponent's field and the digits below it are read as (`read-low`, `read-high`, `read-top`), and so what x is by the parts of its pattern (`at-zero`, `between`, `at-top`).
+-- What an exponent's field and the digits below it are read as (`read-low`, `read-high`, `read-top`), and so what x is by the parts of its pattern (`at-zero`, `between`, `at-top`; `finite-units` for any finite x; `subnormal-at`, `normal-at` for one above zero).
 -- `HasValue x s a c` says that x is finite, has the sign s and the size a / c.
 -- Assumes nothing.
 use mathlib.Core.Path.{_≡_, refl, sym, ap, _∙_, subst}
 use mathlib.Core.Bool.{Bool, true, false, not, cond, true≢false}
-use Prim.Native.Nat.{ℕ, zero, suc, _+_, _-_, _*_, _/_, _%_, _^_, _<_}
-use native.Mathlib.Nat.{mul-div-cancel, mul-assoc, mul-comm, mul-right-comm, mul-pos, lt-irrefl, zero-lt-suc, mod-lt, div-lt-iff-lt-mul}
+use mathlib.Core.Logic.{_⊎_, inl, inr}
+use Prim.Native.Nat.{ℕ, zero, suc, _+_, _-_, _*_, _/_, _%_, _^_, _<_, _≤_}
+use native.Mathlib.Nat.{mul-div-cancel, mul-assoc, mul-comm, mul-right-comm, mul-pos, lt-irrefl, zero-lt-suc, mod-lt, div-lt-iff-lt-mul, le-of-suc-le-suc, eq-or-lt-of-le}
 use native.Mathlib.Omega.{arith}
 use lib.IntN.{ℤ}
 use lib.Pow.{pow-pos}
 use lib.Dec.{T, leb, eqb, eqb→eq, eqb-refl, not-T}
-use lib.Ieee.{Float, nan, inf, fin, Format, prec, emax, low, up, down, size, odd, fits, isNan, ne, hid, ones, top, ofFields, ofBits, toBits}
+use lib.Ieee.{Float, nan, inf, fin, Format, binary32, binary64, prec, emax, low, up, down, size, odd, fits, isNan, ne, hid, ones, top, ofFields, ofBits, toBits}
 use lib.Ieee.Fits.{down-pos}
 use lib.Ieee.Bits.{ofBits-toBits, cond-no, is-true}
 use lib.Ieee.Compare.{differs-from-itself}
@@ -122,6 +123,41 @@ module _ (f : Format) (x : Float) (F : T (fits f x)) where
       let p : suc (field - 1) ≡ field = omega arith in
       subst (λ (v : Float). HasValue v negative ((hid f + digits) * 2 ^ (field - 1)) (2 ^ low f)) (ap (λ (n : ℕ). ofFields f negative n digits) p ∙ is)
       (read-high f negative (field - 1) digits (omega arith))
+
+-- ---- a finite x is q * 2 ^ j of the format's smallest values, with a q of no more digits than the format keeps
+
+abbrev Units : Format → Bool → ℕ → ℤ → Type 0
+Units f s m e = (q : ℕ) × (j : ℕ) × (q < 2 ^ prec f) × (prec f + j ≤ low f + suc (emax f)) × HasValue (fin s m e) s (q * 2 ^ j) (2 ^ low f)
+
+digits-room : (f : Format) (t : ℕ) → t < hid f → hid f + t < 2 ^ prec f
+digits-room binary32 t h = omega arith
+digits-room binary64 t h = omega arith
+
+field-room : (f : Format) (k : ℕ) → k < ones f → prec f + (k - 1) ≤ low f + suc (emax f)
+field-room binary32 k h = omega arith
+field-room binary64 k h = omega arith
+
+pub finite-units : (f : Format) (s : Bool) (m : ℕ) (e : ℤ) → T (fits f (fin s m e)) → Units f s m e
+finite-units f s m e F = go (field f x F) refl (eq-or-lt-of-le (le-of-suc-le-suc (field-lt f (pattern f x F))))
+  where
+    x : Float
+    x = fin s m e
+
+    t : ℕ
+    t = digits f x F
+
+    small : t < hid f
+    small = mod-lt (pattern f x F) (pow-pos (prec f - 1))
+
+    go : (k : ℕ) → field f x F ≡ k → (field f x F ≡ ones f) ⊎ (field f x F < ones f) → Units f s m e
+    go k z (inl top) =
+        let i : x ≡ inf (negative f x F) = at-top f x F top (unfold isNan in tt) in
+        let n : _≡_ {A = ℕ} 0 1 = cc in
+        absurd (omega arith)
+    go zero z (inr l) = (t, 0, omega (arith, digits-room f t small), field-room f 0 (omega arith), (refl, at-zero f x F z .1))
+    go (suc k) z (inr l) =
+        let v = between f x F (λ i. omega arith) (λ i. lt-irrefl (ones f) (subst (λ (n : ℕ). n < ones f) i l)) in
+        (hid f + t, field f x F - 1, digits-room f t small, field-room f (field f x F) l, (refl, v .1))
 
 -- ---- a finite x above zero: its pattern has no sign, and its field is not an infinity's
 

@@ -3,7 +3,7 @@ use mathlib.Core.Path.{_≡_}
 use Prim.Native.Nat.{ℕ, zero, suc, _+_, _*_, _/_, _^_, _<_, _≤_}
 use lib.Ieee.{Float, nan, inf, fin, up, down}
 
--- the size of ±m * 2 ^ e, in units: of a binary32 value the division leaves no remainder
+-- the size of ±m * 2 ^ e, in units: of a binary32 value the division leaves no remainder (`mag-exact` of proofs/Magnitude)
 unfoldable pub mag : Float → ℕ
 mag nan = 0
 mag (inf s) = 0

@@ -37,7 +37,7 @@ fn pack(q: u64, j: u64) -> u64
         let r = (size + j - 949) * 0x80_0000 + nearest(q, size - 24);
         if r < 0x7f80_0000 { r } else { 0x7f80_0000 }
     } else {
-        // 925 - j digits are below 2 ^ -149, and all of q's are past its half
+        // 925 - j digits of q lie below 2 ^ -149: from 54 on, q is less than half of it
         if j < 872 { 0 } else { nearest(q, 925 - j) }
     }
 }

@@ -1,13 +1,13 @@
 -- `elementary::root::by_digits` meets its contract. The loop's invariant: the d digits that are left to set, from g on, give the root, and 24 digits hold it. Assumes nothing.
-use mathlib.Core.Path.{_≡_, refl, sym, ap, _∙_, subst}
-use Prim.Native.Nat.{ℕ, suc, _+_, _-_, _*_, _%_, _^_, _<_, _≤_}
-use native.Mathlib.Nat.{lt-of-le-of-lt, mul-le-mul, pow-succ'}
+use mathlib.Core.Path.{_≡_, refl, sym, ap, _∙_}
+use Prim.Native.Nat.{ℕ, _+_, _-_, _*_, _%_, _^_, _≤_}
+use native.Mathlib.Nat.{lt-of-le-of-lt, mul-le-mul}
 use native.Mathlib.Omega.{arith}
+use mathlib.Core.Bool.{Bool, cond}
 use borrow.Author.Tests.{lt-ltb, le-ltb}
-use lib.Dec.{lit<, lit≤}
-use lib.Pow.{pow-pos}
+use lib.Dec.{ltb, lit<, lit≤}
 use Rattle.elementary.specs.Root.{digits, nearestRoot}
-use Rattle.elementary.proofs.Lengths.{one-shifted}
+use Rattle.elementary.proofs.Lengths.{Half, half-shifted}
 use Rattle.elementary.proofs.Squares.{turn, none}
 use Rattle.elementary.proofs.root.by_digits.Statement.{statement}
 use Rattle.elementary.proofs.root.by_digits.Tie as tie
@@ -29,39 +29,26 @@ module _ (c : tie.In-loop Inv-loop μ-loop) where
   abbrev unit : ℕ
   unit = 1 * 2 ^ (d - 1) % 2 ^ 64
 
-  unit-is : unit ≡ 2 ^ (d - 1)
-  unit-is = one-shifted (d - 1) 64 (omega arith)
-
-  halves : 2 ^ d ≡ 2 * unit
-  halves =
-      let s : d ≡ suc (d - 1) = omega arith in
-      ap (λ (k : ℕ). 2 ^ k) s ∙ pow-succ' 2 (d - 1) ∙ ap (λ (u : ℕ). 2 * u) (sym unit-is)
-
-  some : 0 < unit
-  some = subst (λ (u : ℕ). 0 < u) (sym unit-is) (pow-pos (d - 1))
+  halves : Half d unit
+  halves = half-shifted d 64 (c .loop-test .taken) (omega arith)
 
   room : g + 2 * unit ≤ 2 ^ 24
-  room = omega (arith, halves)
+  room = omega (arith, halves .twice)
 
 mul-if1 : tie.Need-mul-if1 Inv-loop μ-loop
 mul-if1 c =
     let l : 2 * (g c + unit c) - 1 ≤ 2 ^ 25 = omega (arith, room c) in
     record { fits = lt-of-le-of-lt (mul-le-mul l l) (lit< tt) }
 
--- the digit is set, or not
+-- the digit is set, or not, as the test says
+next : (c : tie.In-loop Inv-loop μ-loop) {b : Bool} → ltb ((2 * (g c + unit c) - 1) * (2 * (g c + unit c) - 1)) (4 * c .before .before .args .n) ≡ b → digits (d c - 1) (c .before .before .args .n) (cond b (g c + unit c) (g c)) ≡ nearestRoot (c .before .before .args .n)
+next c t = sym (turn (d c) (c .before .before .args .n) (g c) (unit c) (c .loop-test .taken) (halves c .is) t) ∙ c .before .loop .inv .2
+
 loop-again : tie.Need-loop-again Inv-loop μ-loop
-loop-again c =
-    let t = c .before in
-    let n = t .before .before .args .n in
-    let test = lt-ltb _ _ (c .if1 .taken) in
-    (omega arith, omega (arith, room t, unit-is t), sym (turn (d t) n (g t) (unit t) (t .loop-test .taken) (unit-is t) test) ∙ t .before .loop .inv .2)
+loop-again c = let t = c .before in (omega arith, omega (arith, room t, halves t .is), next t (lt-ltb _ _ (c .if1 .taken)))
 
 loop-again-2 : tie.Need-loop-again-2 Inv-loop μ-loop
-loop-again-2 c =
-    let t = c .before in
-    let n = t .before .before .args .n in
-    let test = le-ltb _ _ (c .if1 .left) in
-    (omega arith, omega (arith, room t, unit-is t), sym (turn (d t) n (g t) (unit t) (t .loop-test .taken) (unit-is t) test) ∙ t .before .loop .inv .2)
+loop-again-2 c = let t = c .before in (omega arith, omega (arith, room t, halves t .is), next t (le-ltb _ _ (c .if1 .left)))
 
 returns : tie.Need-returns Inv-loop μ-loop
 returns c =
@@ -81,7 +68,7 @@ by-digits-spec =
     (λ c. omega arith)
     (λ c. omega (arith, room c))
     (λ c. omega (arith, room c))
-    (λ c. omega (arith, some c))
+    (λ c. omega (arith, halves c .some))
     mul-if1
     (λ c. omega arith)
     (λ c. omega arith)
