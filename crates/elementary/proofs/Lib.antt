@@ -11,6 +11,8 @@ pub mod Rounded
 pub mod Monotone
 pub mod Quotients
 mod Rounding
+-- lists
+pub mod Filled
 -- the root
 pub mod Squares
 pub mod Nearest

@@ -1,5 +1,6 @@
--- The definitions that the contracts cite, each module beside the module of src/ that it describes. `Notation` and `Units` serve every crate.
+-- The definitions that the contracts cite, each module beside the module of src/ that it describes. `Notation`, `Lists` and `Units` serve every crate.
 pub mod Notation
+pub mod Lists
 pub mod Constants
 pub mod Units
 pub mod Sign

@@ -1,0 +1,49 @@
+-- A loop that fills a list of floats from the front, one store a turn: after i turns the first i elements are those of `listOf`, and a list that is filled to its end is `listOf`. Assumes nothing.
+use mathlib.Core.Path.{_≡_, refl, sym, _∙_, ap}
+use mathlib.Core.List.{List}
+use Prim.Native.Nat.{ℕ, zero, suc, _+_, _<_}
+use native.Mathlib.Nat.{ne-of-lt, add-zero, zero-add}
+use native.Mathlib.Omega.{arith}
+use borrow.Author.Count.{below-more, below-none}
+use lib.ListN.{length, getD, set}
+use lib.Seq.{getD-set-same, getD-set-other, ext-getD}
+use lib.Ieee.{Float, nan}
+use Rattle.elementary.specs.Lists.{from, listOf}
+
+-- the first i elements are f 0, f 1, ..
+abbrev pub Filled : (ℕ → Float) → List Float → ℕ → Type 0
+Filled f xs i = (k : ℕ) → k < i → getD xs k nan ≡ f k
+
+pub filled-none : (f : ℕ → Float) (xs : List Float) → Filled f xs 0
+filled-none f xs = below-none (λ k. getD xs k nan ≡ f k)
+
+-- one store more
+pub filled-more : (f : ℕ → Float) (xs : List Float) (i : ℕ) (v : Float) → i < length xs → v ≡ f i → Filled f xs i → Filled f (set xs i v) (i + 1)
+filled-more f xs i v h e g =
+    below-more (λ k. getD (set xs i v) k nan ≡ f k) i (λ k l. getD-set-other xs i k v nan (ne-of-lt l) ∙ g k l) (getD-set-same xs i v nan h ∙ e)
+
+length-from : (n s : ℕ) (f : ℕ → Float) → length (from s n f) ≡ n
+unfolding from
+length-from zero s f = refl
+length-from (suc n) s f = ap suc (length-from n (suc s) f)
+
+pub length-listOf : (n : ℕ) (f : ℕ → Float) → length (listOf n f) ≡ n
+unfolding listOf
+length-listOf n f = length-from n 0 f
+
+getD-from : (n s : ℕ) (f : ℕ → Float) (k : ℕ) → k < n → getD (from s n f) k nan ≡ f (s + k)
+unfolding from
+getD-from zero s f k h = absurd (omega arith)
+getD-from (suc n) s f zero h = ap f (sym (add-zero s))
+getD-from (suc n) s f (suc k) h =
+    let e : suc s + k ≡ s + suc k = omega arith in
+    getD-from n (suc s) f k (omega arith) ∙ ap f e
+
+pub getD-listOf : (n : ℕ) (f : ℕ → Float) (k : ℕ) → k < n → getD (listOf n f) k nan ≡ f k
+unfolding listOf
+getD-listOf n f k h = getD-from n 0 f k h ∙ ap f (zero-add k)
+
+-- a list that is filled to its end
+pub filled-all : (f : ℕ → Float) (xs : List Float) (n : ℕ) → length xs ≡ n → Filled f xs n → xs ≡ listOf n f
+filled-all f xs n e g =
+    ext-getD nan xs (listOf n f) (e ∙ sym (length-listOf n f)) (λ k h. let l : k < n = omega arith in g k l ∙ sym (getD-listOf n f k l))
