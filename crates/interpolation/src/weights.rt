@@ -21,7 +21,7 @@ pub enum Weights {
 }
 
 // The weights in the interval i.
-fn four_at(nodes: &[f32], x: f32, i: usize) -> Four
+pub fn four_at(nodes: &[f32], x: f32, i: usize) -> Four
     requires { ⌜ i + 1 < length (now nodes) ⌝ }
     ensures { λ r. ⌜ r ≡ fourAt (now (nodes .entry)) x i ⌝ }
 {
@@ -56,7 +56,7 @@ fn four_at(nodes: &[f32], x: f32, i: usize) -> Four
 }
 
 // Whether x lies within the ends of the nodes; a NaN does not.
-fn is_within(nodes: &[f32], x: f32) -> bool
+pub fn is_within(nodes: &[f32], x: f32) -> bool
     requires { ⌜ 2 ≤ length (now nodes) ⌝ }
     ensures { λ r. ⌜ r ≡ within (now (nodes .entry)) x ⌝ }
 {

@@ -1,0 +1,11 @@
+-- The laws of `interpolation` that belong to no one function.
+pub mod Bisection
+pub mod Reach
+pub mod Rows
+pub mod Finite
+pub mod Refusals
+pub mod Allowance
+pub mod Accepted
+pub mod Hermite
+pub mod Bounded
+pub mod OnNode

@@ -1,0 +1,52 @@
+-- The checks of document 01's table that concern calls on a caller's own lists. Each gives its number, or 0 where it refuses nothing.
+use Prim.Native.Nat.{ℕ, zero, suc}
+use mathlib.Core.Bool.{Bool, cond, _&&_}
+use mathlib.Core.List.{List, [], _∷_}
+use lib.Dec.{leb, eqb}
+use lib.Ieee.{Float, le}
+use Rattle.elementary.specs.Notation.{lit}
+use Rattle.interpolation.specs.Nodes.{nodesOk}
+
+-- the limits
+unfoldable pub maxRows : ℕ
+maxRows = 128
+
+unfoldable pub maxRadii : ℕ
+maxRadii = 64
+
+unfoldable pub maxAllowance : ℕ
+maxAllowance = 1000
+
+-- the number, unless the test passes
+abbrev pub unlessPassed : ℕ → Bool → ℕ
+unlessPassed number passed = cond passed 0 number
+
+-- 1: N outside its range
+unfoldable pub check1 : ℕ → ℕ
+check1 n = unlessPassed 1 (leb 2 n && leb n maxRows)
+
+-- 2: M outside its range
+unfoldable pub check2 : ℕ → ℕ
+check2 m = unlessPassed 2 (leb 2 m && leb m maxRadii)
+
+-- 5: a length differs
+unfoldable pub check5 : ℕ → ℕ → ℕ
+check5 length expected = unlessPassed 5 (eqb length expected)
+
+-- 6: a node list has a non-finite node, isn't strictly increasing, or its last minus first isn't finite
+unfoldable pub check6 : List Float → ℕ
+check6 nodes = unlessPassed 6 (nodesOk nodes)
+
+-- 9: u is a NaN or outside 0 to 1 (0x3f800000)
+unfoldable pub check9 : Float → ℕ
+check9 u = unlessPassed 9 (le (lit 0) u && le u (lit 0x3f800000))
+
+-- 10: the allowance outside 1 to 1,000
+unfoldable pub check10 : ℕ → ℕ
+check10 allowance = unlessPassed 10 (leb 1 allowance && leb allowance maxAllowance)
+
+-- checks run down the table: the first that refuses gives the number
+unfoldable pub firstOf : List ℕ → ℕ
+firstOf [] = 0
+firstOf (zero ∷ ks) = firstOf ks
+firstOf (suc k ∷ ks) = suc k
