@@ -9,3 +9,4 @@ pub mod Accepted
 pub mod Hermite
 pub mod Bounded
 pub mod OnNode
+pub mod Table

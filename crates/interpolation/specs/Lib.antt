@@ -11,3 +11,4 @@ pub mod Sample
 pub mod Checks
 pub mod Own
 pub mod Bounds
+pub mod ProvedTable

@@ -2,6 +2,7 @@
 // the numbers: a call that document 01 refuses gives the refusal's number and writes nothing.
 ghost use mathlib.Core.Path.{_≡_};
 ghost use Rattle.interpolation.specs.Own as Own;
+ghost use Rattle.interpolation.specs.ProvedTable.{ProvedTable};
 use crate::checks::check_allowance;
 use crate::checks::check_length;
 use crate::checks::check_nodes;
@@ -149,3 +150,8 @@ pub fn sample_2d(
     }
     sample_catmull_rom_2d(nodes1, nodes2, values, cdf, alpha, u, allowance)
 }
+
+// Document 01's proved table is the contract, line by line; the function does nothing.
+pub fn proved_table()
+    ensures { λ r. ⌜ ProvedTable ⌝ }
+{}

@@ -1,0 +1,162 @@
+//! Document 01's calls on a caller's own lists: its checks, in its order, around the functions of rs_pbrt.
+use std::cell::Cell;
+use std::panic::{catch_unwind, resume_unwind, AssertUnwindSafe};
+
+/// What cut.rs wrote.
+#[allow(dead_code, clippy::all)]
+mod reference {
+    include!(env!("REFERENCE"));
+}
+
+pub const MOST_ROWS: usize = 128;
+pub const MOST_RADII: usize = 64;
+pub const MOST_ROUNDS: u32 = 1000;
+
+thread_local! {
+    static ROUNDS: Cell<u32> = const { Cell::new(0) };
+    static ALLOWANCE: Cell<u32> = const { Cell::new(0) };
+}
+
+/// What is thrown when a draw wants a round more than it is allowed.
+struct UsedUp;
+
+/// Document 01's stand-ins for methods of a float.
+trait StandIns {
+    fn stand_in_root(self) -> f32;
+    fn stand_in_max(self, v: f32) -> f32;
+    fn stand_in_abs(self) -> f32;
+}
+
+impl StandIns for f32 {
+    /// Q: the hardware's root is the nearest one.
+    fn stand_in_root(self) -> f32 {
+        if self.is_nan() || self < 0.0 {
+            f32::NAN
+        } else {
+            self.sqrt()
+        }
+    }
+
+    /// The maximum of 0 and v.
+    fn stand_in_max(self, v: f32) -> f32 {
+        assert!(self.to_bits() == 0);
+        if v > 0.0 {
+            v
+        } else {
+            0.0
+        }
+    }
+
+    /// The absolute value. The draw takes it once in each round, so the rounds are counted here.
+    fn stand_in_abs(self) -> f32 {
+        let rounds = ROUNDS.get() + 1;
+        if rounds > ALLOWANCE.get() {
+            resume_unwind(Box::new(UsedUp));
+        }
+        ROUNDS.set(rounds);
+        self.abs()
+    }
+}
+
+pub enum Weights {
+    Refused(u32),
+    Outside,
+    At(i32, [f32; 4]),
+}
+
+pub enum Integral {
+    Refused(u32),
+    Sum(f32),
+}
+
+pub enum Sample {
+    Refused(u32),
+    Outside,
+    At { position: f32, value: f32, density: f32, rounds: u32 },
+}
+
+fn in_order(nodes: &[f32]) -> bool {
+    nodes.iter().all(|x| x.is_finite())
+        && nodes.windows(2).all(|pair| pair[0] < pair[1])
+        && (nodes[nodes.len() - 1] - nodes[0]).is_finite()
+}
+
+/// `catmull_rom_weights`, with none where it says false.
+fn offset_and_weights(nodes: &[f32], x: f32) -> Option<(i32, [f32; 4])> {
+    let mut offset = 0;
+    let mut weights = [0.0; 4];
+    if reference::catmull_rom_weights(nodes, x, &mut offset, &mut weights) {
+        Some((offset, weights))
+    } else {
+        None
+    }
+}
+
+pub fn weights(nodes: &[f32], x: f32) -> Weights {
+    if !(2..=MOST_ROWS).contains(&nodes.len()) {
+        return Weights::Refused(1);
+    }
+    if !in_order(nodes) {
+        return Weights::Refused(6);
+    }
+    match offset_and_weights(nodes, x) {
+        Some((offset, weights)) => Weights::At(offset, weights),
+        None => Weights::Outside,
+    }
+}
+
+pub fn integrate(nodes: &[f32], values: &[f32], cdf: &mut [f32]) -> Integral {
+    if !(2..=MOST_ROWS).contains(&nodes.len()) {
+        return Integral::Refused(1);
+    }
+    if values.len() != nodes.len() || cdf.len() != nodes.len() {
+        return Integral::Refused(5);
+    }
+    if !in_order(nodes) {
+        return Integral::Refused(6);
+    }
+    Integral::Sum(reference::integrate_catmull_rom(nodes.len() as i32, nodes, 0, values, cdf))
+}
+
+pub fn sample_2d(nodes1: &[f32], nodes2: &[f32], values: &[f32], cdf: &[f32], alpha: f32, u: f32, allowance: u32) -> Sample {
+    let cells = nodes1.len() * nodes2.len();
+    if !(2..=MOST_ROWS).contains(&nodes1.len()) {
+        return Sample::Refused(1);
+    }
+    if !(2..=MOST_RADII).contains(&nodes2.len()) {
+        return Sample::Refused(2);
+    }
+    if values.len() != cells || cdf.len() != cells {
+        return Sample::Refused(5);
+    }
+    if !in_order(nodes1) || !in_order(nodes2) {
+        return Sample::Refused(6);
+    }
+    if !(u >= 0.0 && u <= 1.0) {
+        return Sample::Refused(9);
+    }
+    if !(1..=MOST_ROUNDS).contains(&allowance) {
+        return Sample::Refused(10);
+    }
+    draw(nodes1, nodes2, values, cdf, alpha, u, allowance)
+}
+
+/// `sample_catmull_rom_2d`, stopped when the allowance is used up.
+fn draw(nodes1: &[f32], nodes2: &[f32], values: &[f32], cdf: &[f32], alpha: f32, u: f32, allowance: u32) -> Sample {
+    ROUNDS.set(0);
+    ALLOWANCE.set(allowance);
+    let (mut value, mut density) = (0.0, 0.0);
+    let drawn = catch_unwind(AssertUnwindSafe(|| {
+        reference::sample_catmull_rom_2d(nodes1, nodes2, values, cdf, alpha, u, Some(&mut value), Some(&mut density))
+    }));
+    let rounds = ROUNDS.get();
+    match drawn {
+        Ok(position) if offset_and_weights(nodes1, alpha).is_none() => {
+            assert!(position.to_bits() == 0 && rounds == 0);
+            Sample::Outside
+        }
+        Ok(position) => Sample::At { position, value, density, rounds },
+        Err(thrown) if thrown.is::<UsedUp>() => Sample::Refused(13),
+        Err(thrown) => resume_unwind(thrown),
+    }
+}
