@@ -20,7 +20,7 @@ use Rattle.units.proofs.Distance.{distance, no-overflow, Gap, gap}
 use Rattle.interpolation.specs.Nodes.{finite, allFinite, increasing, nodesOk}
 use Rattle.interpolation.specs.Interval.{atMost, nodeInterval}
 use Rattle.interpolation.specs.Weights.{within}
-use Rattle.interpolation.specs.Bounds.{Holds}
+use Rattle.interpolation.specs.Laws.{Holds, LastInterval}
 use Rattle.interpolation.proofs.Finite.{and-left, and-right, each}
 use Rattle.interpolation.proofs.Bisection.{Found, interval-found}
 
@@ -80,13 +80,6 @@ pub record Holding (nodes : List Float) (x : Float) (i : ℕ) : Type 0 where
   pub in-list : i + 2 ≤ length nodes
   pub low : AtMost (getD nodes i nan) x
   pub high : AtMost x (getD nodes (i + 1) nan)
-
--- the interval i is the last whose left node is at or below x; at the last node it is the last of all
-pub record LastInterval (nodes : List Float) (x : Float) (i : ℕ) : Type 0 where
-  pub in-list : i + 2 ≤ length nodes
-  pub at-or-below : le (getD nodes i nan) x ≡ true
-  pub later : (j : ℕ) → i < j → j + 2 ≤ length nodes → le (getD nodes j nan) x ≡ false
-  pub at-last : eq x (getD nodes (length nodes - 1) nan) ≡ true → i + 2 ≡ length nodes
 
 module _ {nodes : List Float} (A : Accepted nodes) where
   abbrev node : ℕ → Float

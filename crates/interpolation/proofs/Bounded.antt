@@ -22,7 +22,7 @@ use Rattle.units.proofs.Distance.{distance, Gap, no-overflow, gap, gap-in, gap-
 use Rattle.interpolation.specs.Nodes.{nodesOk}
 use Rattle.interpolation.specs.Interval.{nodeInterval}
 use Rattle.interpolation.specs.Weights.{firstPart, lastPart, fourAt, within, catmullRomWeights}
-use Rattle.interpolation.specs.Bounds.{Holds, Between, Bounded}
+use Rattle.interpolation.specs.Laws.{Holds, Between, Bounded}
 use Rattle.interpolation.specs.declared.weights.Four.{Four}
 use Rattle.interpolation.specs.declared.weights.Weights.the-variants.{At}
 use Rattle.interpolation.proofs.Reach.{answer}

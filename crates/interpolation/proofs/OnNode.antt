@@ -25,33 +25,12 @@ use Rattle.units.proofs.Distance.{distance, gap-in}
 use Rattle.units.proofs.Unique.{Zero, zero-of, in-zero, quotient-one}
 use Rattle.interpolation.specs.Nodes.{nodesOk}
 use Rattle.interpolation.specs.Interval.{nodeInterval}
-use Rattle.interpolation.specs.Weights.{firstPart, lastPart, fourAt, offsetOf, within, catmullRomWeights}
-use Rattle.interpolation.specs.Bounds.{Holds}
+use Rattle.interpolation.specs.Weights.{firstPart, lastPart, fourAt, weightAt, offsetOf, within, catmullRomWeights}
+use Rattle.interpolation.specs.Laws.{Holds, LastInterval, OnNode}
 use Rattle.interpolation.specs.declared.weights.Four.{Four}
-use Rattle.interpolation.specs.declared.weights.Weights.the-variants.{At}
-use Rattle.interpolation.proofs.Accepted.{Accepted, accepted, Holding, LastInterval, rising, interval-holds, last-interval}
+use Rattle.interpolation.proofs.Accepted.{Accepted, accepted, Holding, rising, interval-holds, last-interval}
 use Rattle.interpolation.proofs.Hermite.{fall, rise, before, after}
 use Rattle.interpolation.proofs.Bounded.{width, width-pos, first-part, last-part, offset}
-
--- the weight at a place, counted from 0
-abbrev pub weightAt : Four → ℕ → Float
-weightAt f zero = f .w0
-weightAt f (suc zero) = f .w1
-weightAt f (suc (suc zero)) = f .w2
-weightAt f (suc (suc (suc p))) = f .w3
-
--- The weights at an x that equals node k: the one at `place` is 1 (0x3f800000), the rest are zeros, of either sign, and the offset plus the place is k.
--- The place is 1, or on the last node 2.
-pub record OnNode (nodes : List Float) (x : Float) (k : ℕ) : Type 0 where
-  pub offset : ℤ
-  pub four : Four
-  pub place : ℕ
-  pub answer : catmullRomWeights nodes x ≡ At offset four
-  pub node : offset +ℤ pos place ≡ pos k
-  pub interval : nodeInterval nodes x + place ≡ k + 1
-  pub which : ((place ≡ 1) × (k + 2 ≤ length nodes)) ⊎ ((place ≡ 2) × (k + 1 ≡ length nodes))
-  pub is-one : weightAt four place ≡ lit 0x3f800000
-  pub rest : (p : ℕ) → p < 4 → (p ≡ place → ⊥) → eq (weightAt four p) (lit 0) ≡ true
 
 -- ---- zeros, by computation
 
@@ -266,7 +245,6 @@ module _ {nodes : List Float} (A : Accepted nodes) (x : Float) (fx : T (fits bin
         place = p;
         answer = rw inside refl;
         node = offset-place i p k e g;
-        interval = e;
         which = c;
         is-one = o .is-one;
         rest = λ q m n. zero-eq (o .is-zero q m n);

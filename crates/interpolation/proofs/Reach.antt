@@ -13,7 +13,7 @@ use lib.Ieee.{Float, eq, ofBits}
 use Rattle.elementary.specs.Notation.{lit}
 use Rattle.interpolation.specs.Interval.{nodeInterval}
 use Rattle.interpolation.specs.Weights.{fourAt, offsetOf, within, catmullRomWeights}
-use Rattle.interpolation.specs.Reach.{Reach}
+use Rattle.interpolation.specs.Laws.{Reach}
 use Rattle.interpolation.specs.declared.weights.Four.{Four}
 use Rattle.interpolation.specs.declared.weights.Weights.the-variants.{At, Outside}
 use Rattle.interpolation.proofs.Bisection.{node-bound}

@@ -11,7 +11,7 @@ use lib.ListN.{getD, length}
 use lib.Ieee.{Float, nan, eq}
 use Rattle.elementary.specs.Notation.{_⊕_, _⊗_, lit}
 use Rattle.interpolation.specs.Weights.{offsetOf}
-use Rattle.interpolation.specs.Reach.{Reach}
+use Rattle.interpolation.specs.Laws.{Reach, Agree}
 use Rattle.interpolation.specs.Blend.{rowOf, addRow, interpolate, InTable, blendAtMost, blendInterval}
 use Rattle.interpolation.specs.declared.weights.Four.{Four}
 use Rattle.interpolation.proofs.Bisection.{interval-bound}
@@ -39,16 +39,6 @@ unfolding blendInterval
 blend-bound cdf m o f u = interval-bound (blendAtMost cdf m o f u) m
 
 -- ---- two tables that agree on the rows of nonzero weight
-
--- weight k, of four
-abbrev pub weight : Four → ℕ → Float
-weight f zero = f .w0
-weight f (suc zero) = f .w1
-weight f (suc (suc zero)) = f .w2
-weight f (suc (suc (suc k))) = f .w3
-
-pub record Agree (a b : List Float) (m : ℕ) (o : ℤ) (f : Four) : Type 0 where
-  pub at : (k col : ℕ) → k < 4 → col < m → eq (weight f k) (lit 0) ≡ false → getD a (rowOf o k * m + col) nan ≡ getD b (rowOf o k * m + col) nan
 
 add-row-same : (a b : List Float) (m row col : ℕ) (w value : Float) → (eq w (lit 0) ≡ false → getD a (row * m + col) nan ≡ getD b (row * m + col) nan) → addRow a m row col w value ≡ addRow b m row col w value
 unfolding addRow

@@ -2,7 +2,6 @@
 pub mod Interval
 pub mod Nodes
 pub mod Weights
-pub mod Reach
 pub mod Slope
 pub mod Integral
 pub mod Blend
@@ -10,5 +9,5 @@ pub mod Solve
 pub mod Sample
 pub mod Checks
 pub mod Own
-pub mod Bounds
+pub mod Laws
 pub mod ProvedTable

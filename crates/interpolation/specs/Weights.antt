@@ -57,6 +57,13 @@ fourAt nodes x i =
       w3 = cond after p3 (lit 0);
     }
 
+-- the weight at a place, counted from 0
+abbrev pub weightAt : Four → ℕ → Float
+weightAt f zero = f .w0
+weightAt f (suc zero) = f .w1
+weightAt f (suc (suc zero)) = f .w2
+weightAt f (suc (suc (suc p))) = f .w3
+
 -- the first of the four nodes around the interval i: i - 1
 unfoldable pub offsetOf : ℕ → ℤ
 offsetOf zero = negsuc 0
