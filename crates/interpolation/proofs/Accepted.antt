@@ -9,7 +9,7 @@ use native.Mathlib.Nat.{add-zero}
 use native.Mathlib.Omega.{arith}
 use lib.Dec.{T}
 use lib.ListN.{getD, length}
-use lib.Ieee.{Float, nan, inf, fin, binary32, fits, lt, le, eq}
+use lib.Ieee.{Float, nan, inf, fin, binary32, fits, lt, le}
 use lib.Ieee.Scale as Scale
 use Rattle.elementary.specs.Notation.{_⊖_}
 use Rattle.units.specs.Units.{Number}

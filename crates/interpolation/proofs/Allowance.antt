@@ -4,8 +4,9 @@ use mathlib.Core.Path.{_≡_, refl, ap}
 use mathlib.Core.Bool.{Bool, true, false, cond, true≢false}
 use mathlib.Core.List.{List, [], _∷_}
 use Prim.Native.Nat.{ℕ, zero, suc, _+_, _-_, _≤_, _<_}
-use native.Mathlib.Nat.{le-trans, zero-add}
+use native.Mathlib.Nat.{le-trans, le-refl, zero-add}
 use native.Mathlib.Omega.{arith}
+use lib.Arith.{le-zero}
 use lib.ListN.{length}
 use lib.Ieee.{Float}
 use Rattle.elementary.specs.Notation.{lit, _⊗_}
@@ -122,12 +123,12 @@ all-passed p q r s t h =
     (a .0, b .0, c .0, d .0, first-none t [] (d .1) .0)
 
 -- a larger allowance passes where the first did
-number-more : (nodes1 nodes2 values cdf : List Float) (u : Float) (allowance other : ℕ) → sampleNumber nodes1 nodes2 values cdf u allowance ≡ 0 → allowance ≤ other → other ≤ maxAllowance
-    → sampleNumber nodes1 nodes2 values cdf u other ≡ 0
+number-more : (nodes1 nodes2 values cdf : List Float) (u : Float) (allowance other : ℕ) → sampleNumber nodes1 nodes2 values cdf u allowance ≤ 0 → allowance ≤ other → other ≤ maxAllowance
+    → sampleNumber nodes1 nodes2 values cdf u other ≤ 0
 unfolding sampleNumber firstOf
 number-more nodes1 nodes2 values cdf u allowance other h l m =
-    let a = all-passed (sizesNumber (length nodes1) (length nodes2) (length values) (length cdf)) (check6 nodes1) (check6 nodes2) (check9 u) (check10 allowance) h in
-    rw (a .0, a .1, a .2, a .3, allowance-passes other (le-trans (allowance-in-range allowance (a .4) .0) l) m)
+    let a = all-passed (sizesNumber (length nodes1) (length nodes2) (length values) (length cdf)) (check6 nodes1) (check6 nodes2) (check9 u) (check10 allowance) (le-zero h) in
+    rw (a .0, a .1, a .2, a .3, allowance-passes other (le-trans (allowance-in-range allowance (a .4) .0) l) m) (le-refl 0)
 
 told-13 : (s : Sample) → sampleTold s .number ≡ 0 → s ≡ Refused 13 → ⊥
 unfolding sampleTold

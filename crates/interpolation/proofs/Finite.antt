@@ -1,7 +1,7 @@
 -- Check 6 by what the code tests. A value is finite where its size is below infinity (`finite-is`). Where each node is below the next, an inner node is finite, having a value below it and one above it,
 -- and the two ends are where their difference is finite: so the first of the three tests follows from the others (`ok-is`). Assumes nothing.
 use mathlib.Core.Path.{_≡_, refl, sym, _∙_}
-use mathlib.Core.Bool.{Bool, true, false, cond, _&&_, true≢false, false≢true}
+use mathlib.Core.Bool.{Bool, true, false, _&&_, false≢true}
 use mathlib.Core.Logic.{inl, inr}
 use mathlib.Core.List.{List}
 use Prim.Native.Nat.{ℕ, zero, suc, _+_, _-_, _≤_, _<_}
@@ -9,7 +9,7 @@ use native.Mathlib.Nat.{eq-or-lt-of-le}
 use native.Mathlib.Numerals.{add-one}
 use native.Mathlib.Omega.{arith}
 use lib.ListN.{getD, length}
-use lib.Ieee.{Float, nan, inf, fin, binary32, lt, add, sub, neg}
+use lib.Ieee.{Float, nan, inf, fin, lt, add, sub, neg}
 use Rattle.elementary.specs.Notation.{_⊖_}
 use Rattle.elementary.specs.Sign.{abs}
 use Rattle.interpolation.specs.Nodes.{finite, allBelow, allFinite, increasing, nodesOk}

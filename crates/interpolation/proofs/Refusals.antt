@@ -1,11 +1,12 @@
 -- What the checks say. The first number that is not 0 is the answer of `firstOf`; where that is 0 every check has passed, and each passed check gives its range. Assumes nothing.
-use mathlib.Core.Path.{_≡_, refl, sym, _∙_}
-use mathlib.Core.Bool.{Bool, true, false, cond, _&&_, true≢false}
+use mathlib.Core.Path.{_≡_, refl, sym}
+use mathlib.Core.Bool.{Bool, true, false, _&&_, true≢false}
 use mathlib.Core.List.{List, [], _∷_}
 use Prim.Native.Nat.{ℕ, zero, suc, _*_, _≤_, _<_}
+use native.Mathlib.Nat.{le-refl}
 use native.Mathlib.Omega.{arith}
 use borrow.Author.Tests.{leb-true, le-leb}
-use lib.Dec.{leb, eqb, eqb→eq, T}
+use lib.Dec.{leb, eqb, eqb→eq}
 use lib.ListN.{length}
 use lib.Ieee.{Float}
 use Rattle.interpolation.specs.Nodes.{nodesOk}
@@ -35,6 +36,10 @@ first-none zero ks h = (refl, h)
 first-none (suc k) ks h = absurd (omega arith)
 
 -- ---- what a passed check says
+
+-- the number m that a call answered as k was not above 0
+pub nothing : (k m : ℕ) → k ≡ m → k ≤ 0 → m ≡ 0
+nothing k m e l = omega arith
 
 passed : (number : ℕ) (b : Bool) → 0 < number → unlessPassed number b ≡ 0 → b ≡ true
 passed number true p h = refl
@@ -114,9 +119,9 @@ unfolding answered
 refuses zero a h = absurd (omega arith)
 refuses (suc k) a h = refl
 
-pub not-refused : (k : ℕ) (a : Answer) → answered k a .number ≡ 0 → k ≡ 0
+pub not-refused : (k : ℕ) (a : Answer) → answered k a .number ≡ 0 → k ≤ 0
 unfolding answered
-not-refused zero a h = refl
+not-refused zero a h = le-refl 0
 not-refused (suc k) a h = absurd (omega arith)
 
 pub keeps : (k : ℕ) (new old : List Float) → 0 < k → written k new old ≡ old
@@ -124,10 +129,12 @@ unfolding written
 keeps zero new old h = absurd (omega arith)
 keeps (suc k) new old h = refl
 
-pub answers : (k : ℕ) (a : Answer) → k ≡ 0 → answered k a ≡ a
+pub answers : (k : ℕ) (a : Answer) → k ≤ 0 → answered k a ≡ a
 unfolding answered
-answers k a h = rw h
+answers zero a h = refl
+answers (suc k) a h = absurd (omega arith)
 
-pub writes : (k : ℕ) (new old : List Float) → k ≡ 0 → written k new old ≡ new
+pub writes : (k : ℕ) (new old : List Float) → k ≤ 0 → written k new old ≡ new
 unfolding written
-writes k new old h = rw h
+writes zero new old h = refl
+writes (suc k) new old h = absurd (omega arith)

@@ -1,9 +1,8 @@
 -- `interpolation::interval::find_interval` meets its contract. The invariant: what is left to bisect lies within the nodes, and bisecting it gives what bisecting them all gives.
 -- The measure is `len`. Assumes nothing.
 use borrow.Author.Needs.{needs}
-use borrow.Author.Tests.{not-true}
-use mathlib.Core.Path.{_≡_, refl, sym, _∙_}
-use Prim.Native.Nat.{ℕ, _+_, _≤_}
+use mathlib.Core.Path.{_≡_, refl, _∙_}
+use Prim.Native.Nat.{_+_, _≤_}
 use native.Mathlib.Omega.{arith}
 use lib.ListN.{length}
 use Rattle.interpolation.specs.Interval.{bisect, findInterval, atMost, nodeInterval}

@@ -1,9 +1,7 @@
 -- `interpolation::own::integral_number` meets its contract. Assumes nothing.
 use borrow.Author.Needs.{needs}
-use mathlib.Core.Path.{_≡_, sym, _∙_}
-use native.Mathlib.Omega.{arith}
 use Rattle.interpolation.specs.Own.{integralNumber}
-use Rattle.interpolation.proofs.Refusals.{first-here, first-next, first-last, rows-in-range}
+use Rattle.interpolation.proofs.Refusals.{first-here, first-next, first-last, nothing, rows-in-range}
 use Rattle.interpolation.proofs.own.integral_number.Statement.{statement}
 use Rattle.interpolation.proofs.own.integral_number.Tie as tie
 
@@ -33,9 +31,8 @@ returns-3 c =
 
 check-nodes-requires : tie.Need-check-nodes-requires
 check-nodes-requires c κs =
-    let rows = c .before .before .before .before .before in
-    let passed : rows .check-rows .result ≡ 0 = omega arith in
-    rows-in-range _ (sym (rows .check-rows .ensures) ∙ passed) .0
+    let rows = c .before .before .before .before in
+    rows-in-range _ (nothing _ _ (rows .before .check-rows .ensures) (rows .if1 .left)) .0
 
 returns-4 : tie.Need-returns-4
 unfolding integralNumber

@@ -1,11 +1,9 @@
 -- `interpolation::own::integrate` meets its contract: the answer and the list both go by the number of the checks. Assumes nothing.
 use borrow.Author.Needs.{needs}
-use mathlib.Core.Path.{_≡_, sym, _∙_}
 use native.Mathlib.Nat.{le-trans}
-use native.Mathlib.Omega.{arith}
 use lib.Dec.{lit≤}
 use Rattle.interpolation.specs.Own as Own
-use Rattle.interpolation.proofs.Refusals.{refuses, keeps, answers, writes, integral-lengths}
+use Rattle.interpolation.proofs.Refusals.{nothing, refuses, keeps, answers, writes, integral-lengths}
 use Rattle.interpolation.proofs.own.integrate.Statement.{statement}
 use Rattle.interpolation.proofs.own.integrate.Tie as tie
 
@@ -17,19 +15,17 @@ returns c =
 
 integrate-catmull-rom-requires : tie.Need-integrate-catmull-rom-requires
 integrate-catmull-rom-requires c κs =
-    let number = c .before .before in
-    let passed : number .integral-number .result ≡ 0 = omega arith in
-    let lengths = integral-lengths _ _ _ (sym (number .integral-number .ensures) ∙ passed) in
+    let accepted = c .before in
+    let lengths = integral-lengths _ _ _ (nothing _ _ (accepted .before .integral-number .ensures) (accepted .if1 .left)) in
     (le-trans (lit≤ tt) (lengths .rows .0), (lengths .values-fit, lengths .cdf-fits))
 
 returns-2 : tie.Need-returns-2
 unfolding Own.integralTold Own.integral Own.cdfAfter
 returns-2 c =
     let sum = c .before .before in
-    let number = sum .before .before .before in
-    let e = number .integral-number .ensures in
-    let passed : number .integral-number .result ≡ 0 = omega arith in
-    (rw (← e, answers _ _ passed, sum .integrate-catmull-rom .ensures .0), rw (← e, writes _ _ _ passed, sum .integrate-catmull-rom .ensures .1))
+    let accepted = sum .before .before in
+    let e = accepted .before .integral-number .ensures in
+    (rw (← e, answers _ _ (accepted .if1 .left), sum .integrate-catmull-rom .ensures .0), rw (← e, writes _ _ _ (accepted .if1 .left), sum .integrate-catmull-rom .ensures .1))
 
 pub integrate-spec : {M : Type 1} → statement M
 integrate-spec =

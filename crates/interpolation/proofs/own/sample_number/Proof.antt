@@ -1,17 +1,13 @@
 -- `interpolation::own::sample_number` meets its contract. Assumes nothing.
 use borrow.Author.Needs.{needs}
-use mathlib.Core.Path.{_≡_, sym, _∙_}
-use native.Mathlib.Omega.{arith}
 use lib.ListN.{length}
 use Rattle.interpolation.specs.Own.{sampleNumber}
-use Rattle.interpolation.proofs.Refusals.{first-here, first-next, first-last, Sizes, sizes-fit}
+use Rattle.interpolation.proofs.Refusals.{first-here, first-next, first-last, nothing, Sizes, sizes-fit}
 use Rattle.interpolation.proofs.own.sample_number.Statement.{statement}
 use Rattle.interpolation.proofs.own.sample_number.Tie as tie
 
 sizes : (c : tie.Else1) → let a = c .before .before .before .before .before .before .args in Sizes (length (a .nodes1 .now)) (length (a .nodes2 .now)) (length (a .values .now)) (length (a .cdf .now))
-sizes c =
-    let passed : c .before .sizes-number .result ≡ 0 = omega arith in
-    sizes-fit _ _ _ _ (sym (c .before .sizes-number .ensures) ∙ passed)
+sizes c = sizes-fit _ _ _ _ (nothing _ _ (c .before .sizes-number .ensures) (c .if1 .left))
 
 returns : tie.Need-returns
 unfolding sampleNumber

@@ -1,23 +1,19 @@
 -- `interpolation::own::sizes_number` meets its contract. The product is computed once both sizes are in range, so it cannot overflow. Assumes nothing.
 use borrow.Author.Needs.{needs}
-use mathlib.Core.Path.{_≡_, sym, _∙_}
-use Prim.Native.Nat.{ℕ, _*_, _≤_}
+use Prim.Native.Nat.{_*_, _≤_}
 use native.Mathlib.Nat.{mul-le-mul}
 use native.Mathlib.Omega.{arith}
 use Rattle.interpolation.specs.Checks.{maxRows, maxRadii}
 use Rattle.interpolation.specs.Own.{sizesNumber}
-use Rattle.interpolation.proofs.Refusals.{first-here, first-next, first-last, rows-in-range, radii-in-range}
+use Rattle.interpolation.proofs.Refusals.{first-here, first-next, first-last, nothing, rows-in-range, radii-in-range}
 use Rattle.interpolation.proofs.own.sizes_number.Statement.{statement}
 use Rattle.interpolation.proofs.own.sizes_number.Tie as tie
 
 product : (c : tie.Else2) → let s = c .before .before .before .before in s .args .n * s .args .m ≤ 8192
 unfolding maxRows maxRadii
 product c =
-    let radii = c .before in
-    let rows = radii .before .before in
-    let no-rows : rows .check-rows .result ≡ 0 = omega arith in
-    let no-radii : radii .check-radii .result ≡ 0 = omega arith in
-    mul-le-mul (rows-in-range _ (sym (rows .check-rows .ensures) ∙ no-rows) .1) (radii-in-range _ (sym (radii .check-radii .ensures) ∙ no-radii) .1)
+    let rows = c .before .before in
+    mul-le-mul (rows-in-range _ (nothing _ _ (rows .before .check-rows .ensures) (rows .if1 .left)) .1) (radii-in-range _ (nothing _ _ (c .before .check-radii .ensures) (c .if2 .left)) .1)
 
 returns : tie.Need-returns
 unfolding sizesNumber

@@ -1,14 +1,12 @@
 -- `interpolation::own::weights` meets its contract. Assumes nothing.
 use borrow.Author.Needs.{needs}
-use mathlib.Core.Path.{_≡_, sym, _∙_}
-use native.Mathlib.Omega.{arith}
 use native.Mathlib.Nat.{le-trans}
 use lib.Dec.{lit≤}
 use mir.Syntax.{w32}
 use mir.Facts.{toZ-ofZ}
 use Rattle.interpolation.specs.Checks.{maxRows}
 use Rattle.interpolation.specs.Own as Own
-use Rattle.interpolation.proofs.Refusals.{refuses, answers, weights-rows}
+use Rattle.interpolation.proofs.Refusals.{nothing, refuses, answers, weights-rows}
 use Rattle.interpolation.proofs.own.weights.Statement.{statement}
 use Rattle.interpolation.proofs.own.weights.Tie as tie
 
@@ -19,20 +17,18 @@ returns c = rw (← c .before .weights-number .ensures, refuses _ _ (c .if1 .tak
 catmull-rom-weights-requires : tie.Need-catmull-rom-weights-requires
 unfolding maxRows
 catmull-rom-weights-requires c κs =
-    let passed : c .before .weights-number .result ≡ 0 = omega arith in
-    let rows = weights-rows _ (sym (c .before .weights-number .ensures) ∙ passed) in
+    let rows = weights-rows _ (nothing _ _ (c .before .weights-number .ensures) (c .if1 .left)) in
     (rows .0, le-trans (rows .1) (lit≤ tt))
 
 returns-2 : tie.Need-returns-2
 unfolding Own.weightsTold Own.weights Own.weightsValue
 returns-2 c =
     let asked = c .before .before .before in
-    let number = asked .before .before in
-    let passed : number .weights-number .result ≡ 0 = omega arith in
+    let accepted = asked .before in
     rw (
       toZ-ofZ {w = w32} (record { sfits = c .known-told .given .0 .1 }),
-      ← number .weights-number .ensures,
-      answers _ _ passed,
+      ← accepted .before .weights-number .ensures,
+      answers _ _ (accepted .if1 .left),
       ← asked .catmull-rom-weights .ensures,
       c .before .offset .given .1,
     )
@@ -41,9 +37,8 @@ returns-3 : tie.Need-returns-3
 unfolding Own.weightsTold Own.weights Own.weightsValue
 returns-3 c =
     let asked = c .before .before in
-    let number = asked .before .before in
-    let passed : number .weights-number .result ≡ 0 = omega arith in
-    rw (← number .weights-number .ensures, answers _ _ passed, ← asked .catmull-rom-weights .ensures, c .enum-told .given .1)
+    let accepted = asked .before in
+    rw (← accepted .before .weights-number .ensures, answers _ _ (accepted .if1 .left), ← asked .catmull-rom-weights .ensures, c .enum-told .given .1)
 
 pub weights-spec : {M : Type 1} → statement M
 weights-spec =

@@ -1,11 +1,7 @@
 -- `interpolation::own::weights_number` meets its contract. Assumes nothing.
 use borrow.Author.Needs.{needs}
-use mathlib.Core.Path.{_≡_, sym, _∙_}
-use Prim.Native.Nat.{_≤_}
-use native.Mathlib.Omega.{arith}
-use lib.ListN.{length}
 use Rattle.interpolation.specs.Own.{weightsNumber}
-use Rattle.interpolation.proofs.Refusals.{first-here, first-next, first-last, rows-in-range}
+use Rattle.interpolation.proofs.Refusals.{first-here, first-next, first-last, nothing, rows-in-range}
 use Rattle.interpolation.proofs.own.weights_number.Statement.{statement}
 use Rattle.interpolation.proofs.own.weights_number.Tie as tie
 
@@ -14,9 +10,7 @@ unfolding weightsNumber
 returns c = rw (← c .before .check-rows .ensures, first-here _ _ (c .if1 .taken))
 
 check-nodes-requires : tie.Need-check-nodes-requires
-check-nodes-requires c κs =
-    let passed : c .before .check-rows .result ≡ 0 = omega arith in
-    rows-in-range _ (sym (c .before .check-rows .ensures) ∙ passed) .0
+check-nodes-requires c κs = rows-in-range _ (nothing _ _ (c .before .check-rows .ensures) (c .if1 .left)) .0
 
 returns-2 : tie.Need-returns-2
 unfolding weightsNumber

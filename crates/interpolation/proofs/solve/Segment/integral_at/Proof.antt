@@ -1,5 +1,5 @@
 -- `interpolation::solve::Segment::integral_at` meets its contract. Assumes nothing.
-use mathlib.Core.Path.{_≡_, refl, sym, _∙_}
+use mathlib.Core.Path.{refl}
 use Rattle.interpolation.specs.Solve.{integralAt}
 use Rattle.interpolation.proofs.solve.Segment.integral_at.Statement.{statement}
 use Rattle.interpolation.proofs.solve.Segment.integral_at.Tie as tie

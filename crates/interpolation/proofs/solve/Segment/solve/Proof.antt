@@ -1,6 +1,6 @@
 -- `interpolation::solve::Segment::solve` meets its contract. Assumes nothing.
 use borrow.Author.Needs.{needs}
-use mathlib.Core.Path.{_≡_, refl, sym, _∙_}
+use mathlib.Core.Path.{_≡_}
 use Prim.Native.Nat.{_+_, _-_, _≤_, suc}
 use native.Mathlib.Nat.{sub-zero}
 use native.Mathlib.Omega.{arith}

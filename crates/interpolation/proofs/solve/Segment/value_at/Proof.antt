@@ -1,5 +1,5 @@
 -- `interpolation::solve::Segment::value_at` meets its contract. Assumes nothing.
-use mathlib.Core.Path.{_≡_, refl, sym, _∙_}
+use mathlib.Core.Path.{refl}
 use Rattle.interpolation.specs.Solve.{valueAt}
 use Rattle.interpolation.proofs.solve.Segment.value_at.Statement.{statement}
 use Rattle.interpolation.proofs.solve.Segment.value_at.Tie as tie
