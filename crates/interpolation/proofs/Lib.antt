@@ -2,6 +2,7 @@
 pub mod Bisection
 pub mod Reach
 pub mod Rows
+pub mod Needed
 pub mod Finite
 pub mod Refusals
 pub mod Allowance
