@@ -1,0 +1,2 @@
+-- The definition that the contracts of `interpolation_native` cite.
+pub mod Total
