@@ -102,8 +102,8 @@ fn proved_sample_2d(nodes1: &[f32], nodes2: &[f32], values: &[f32], cdf: &[f32],
     }
 }
 
-const CALLS: usize = 1000;
-const TURNS: usize = 300;
+const CALLS: usize = 20000;
+const TURNS: usize = 50;
 
 /// The times of both, over the same arguments; their answers have to be the same.
 fn beside(name: &str, mut rust: impl FnMut(usize) -> f32, mut proved: impl FnMut(usize) -> f32) {

@@ -1,15 +1,16 @@
--- What the tests x < 0 and x == 0 say of x: which of the logic's values it can be. Assumes nothing.
+-- What the tests x < 0 and x == 0 say of x: which of the logic's values it can be. And a test of its size by two tests without (`abs-below`). Assumes nothing.
 use mathlib.Core.Path.{_≡_, refl}
-use mathlib.Core.Bool.{Bool, true, false, _&&_, true≢false, false≢true}
+use mathlib.Core.Bool.{Bool, true, false, cond, _&&_, true≢false, false≢true}
 use Prim.Native.Nat.{ℕ, zero, suc, _+_, _*_, _<_, _≤_}
 use native.Mathlib.Nat.{mul-pos, zero-lt-suc}
 use native.Mathlib.Omega.{arith}
 use lib.IntN.{ℤ}
-use lib.Dec.{eqb}
-use borrow.Author.Tests.{ltb-true, ltb-false, eqb-true, eq-eqb}
-use lib.Ieee.{Float, nan, inf, fin, up, down, lt, eq, ofBits}
-use lib.Ieee.Fits.{up-pos}
+use lib.Dec.{ltb, eqb}
+use borrow.Author.Tests.{ltb-true, ltb-false, lt-ltb, eqb-true, eq-eqb}
+use lib.Ieee.{Float, nan, inf, fin, up, down, neg, lt, eq, ofBits}
+use lib.Ieee.Fits.{up-pos, down-pos}
 use Rattle.elementary.specs.Notation.{lit}
+use Rattle.elementary.specs.Sign.{abs}
 
 pub data Below : Float → Type 0 where
   inf-below : Below (inf true)
@@ -64,3 +65,29 @@ other (fin true m e) h k =
     absurd (both (eqb (m * up e * 1) (0 * down e)) (eqb (m * up e * 1) 0) (eq-eqb (m * up e * 1) (0 * down e) (omega arith)) (eq-eqb (m * up e * 1) 0 (omega arith)) k)
 other (fin false zero e) h k = absurd (both (eqb (0 * up e * 1) (0 * down e)) true (eq-eqb (0 * up e * 1) (0 * down e) (omega arith)) refl k)
 other (fin false (suc m) e) h k = fin-other m e
+
+-- ---- the size of x against a number above zero: x lies between the number and its negative
+
+own : (b : Bool) → b ≡ cond b true false
+own true = refl
+own false = refl
+
+positive-sum : (b a : ℕ) → 0 < b → 0 < b + a
+positive-sum b a h = omega arith
+
+add-positive : (a b : ℕ) → 0 < b → 0 < a + b
+add-positive a b h = omega arith
+
+pub abs-below : (x : Float) (m : ℕ) (e : ℤ) → 0 < m → lt (abs x) (fin false m e) ≡ cond (lt x (fin false m e)) (lt (neg (fin false m e)) x) false
+unfolding abs lt neg
+abs-below nan m e h = refl
+abs-below (inf true) m e h = refl
+abs-below (inf false) m e h = refl
+abs-below (fin false n k) m e h =
+    let a = n * up k * down e in
+    let b = m * up e * down k in
+    rw (lt-ltb 0 (b + a) (positive-sum b a (mul-pos (mul-pos h (up-pos e)) (down-pos k)))) (own (ltb a b))
+abs-below (fin true n k) m e h =
+    let a = n * up k * down e in
+    let b = m * up e * down k in
+    rw (lt-ltb 0 (a + b) (add-positive a b (mul-pos (mul-pos h (up-pos e)) (down-pos k)))) refl

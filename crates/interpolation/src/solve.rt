@@ -133,11 +133,12 @@ impl Segment {
     }
 }
 
-// Whether the round with the difference d and the bounds a and b is the last.
+// Whether the round with the difference d and the bounds a and b is the last. The size of d is told
+// by two comparisons, which is faster than taking it.
 fn is_last(d: f32, a: f32, b: f32) -> bool
     ensures { λ r. ⌜ r ≡ Solve.stops d a b ⌝ }
 {
-    if elementary::abs(d) < 1e-6 {
+    if d < 1e-6 && -1e-6 < d {
         return true;
     }
     b - a < 1e-6
