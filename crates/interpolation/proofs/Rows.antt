@@ -8,7 +8,7 @@ use native.Mathlib.Nat.{mul-le-mul-right, suc-mul}
 use native.Mathlib.Omega.{arith}
 use lib.IntN.{ℤ}
 use lib.ListN.{getD, length}
-use lib.Ieee.{Float, nan, eq}
+use lib.Ieee.{Float, nan, eq, ofBits}
 use Rattle.elementary.specs.Notation.{_⊕_, _⊗_, lit}
 use Rattle.interpolation.specs.Weights.{offsetOf}
 use Rattle.interpolation.specs.Laws.{Reach, Agree}
@@ -37,6 +37,15 @@ in-table table n m i f r e =
 pub blend-bound : (cdf : List Float) (m : ℕ) (o : ℤ) (f : Four) (u : Float) → blendInterval cdf m o f u ≤ m - 2
 unfolding blendInterval
 blend-bound cdf m o f u = interval-bound (blendAtMost cdf m o f u) m
+
+-- a weight of either zero leaves the value as it is
+pub zero-weight : (table : List Float) (m row col : ℕ) (w value : Float) → eq w (lit 0) ≡ true → addRow table m row col w value ≡ value
+unfolding addRow
+zero-weight table m row col w value h = rw h
+
+pub minus-zero : eq (lit 0x80000000) (lit 0) ≡ true
+unfolding eq ofBits
+minus-zero = refl
 
 -- ---- two tables that agree on the rows of nonzero weight
 
