@@ -15,7 +15,8 @@ use Rattle.interpolation.specs.Weights.{catmullRomWeights}
 use Rattle.interpolation.specs.Sample.{segmentAt, drawn, drawFrom, sampleCatmullRom2d}
 use Rattle.interpolation.specs.Blend.{interpolate, blendInterval}
 use Rattle.interpolation.specs.Checks.{maxAllowance, check6, check9, check10, firstOf}
-use Rattle.interpolation.specs.Own.{Answer, refusal, sampleTold, sizesNumber, sampleNumber, sample2d}
+use Rattle.interpolation.specs.Answer.{Answer, refusal}
+use Rattle.interpolation.specs.Own.{sampleTold, sizesNumber, sampleNumber, sample2d}
 use Rattle.interpolation.specs.declared.solve.Segment.{Segment}
 use Rattle.interpolation.specs.declared.solve.Round.{Round}
 use Rattle.interpolation.specs.declared.solve.Solved.{Solved}

@@ -11,7 +11,8 @@ use lib.ListN.{length}
 use lib.Ieee.{Float}
 use Rattle.interpolation.specs.Nodes.{nodesOk}
 use Rattle.interpolation.specs.Checks.{maxRows, maxRadii, maxAllowance, unlessPassed, check1, check2, check5, check6, check10, firstOf}
-use Rattle.interpolation.specs.Own.{Answer, refusal, answered, written, weightsNumber, integralNumber, sizesNumber, sampleNumber}
+use Rattle.interpolation.specs.Answer.{Answer, refusal, answered, written}
+use Rattle.interpolation.specs.Own.{weightsNumber, integralNumber, sizesNumber, sampleNumber}
 
 -- ---- the first that refuses
 

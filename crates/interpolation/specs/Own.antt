@@ -1,13 +1,14 @@
 -- The calls that document 01 offers on a caller's own lists ("The other calls"), each with the number of its refusal, its value, and what a lent list holds after it.
-use Prim.Native.Nat.{ℕ, zero, suc, _*_}
+use Prim.Native.Nat.{ℕ, _*_}
 use mathlib.Core.List.{List, [], _∷_}
-use lib.IntN.{ℤ, pos}
+use lib.IntN.{pos}
 use lib.ListN.{length}
 use lib.Ieee.{Float}
 use Rattle.elementary.specs.Notation.{lit}
 use Rattle.interpolation.specs.Weights.{catmullRomWeights}
 use Rattle.interpolation.specs.Integral.{integrateCatmullRom, cdfOf}
 use Rattle.interpolation.specs.Sample.{sampleCatmullRom2d}
+use Rattle.interpolation.specs.Answer.{Answer, refusal, value, answered, written}
 use Rattle.interpolation.specs.Checks.{check1, check2, check5, check6, check9, check10, firstOf}
 use Rattle.interpolation.specs.declared.weights.Weights.{Weights}
 use Rattle.interpolation.specs.declared.weights.Weights.the-variants as Weights
@@ -18,27 +19,6 @@ use Rattle.interpolation.specs.declared.own.WeightsAnswer.the-variants a
 use Rattle.interpolation.specs.declared.own.IntegralAnswer.{IntegralAnswer}
 use Rattle.interpolation.specs.declared.own.IntegralAnswer.the-variants as IntegralAnswer
 
--- An answer as document 01 gives it: a refusal's number alone; or the number 0, and the floats and the whole numbers of the value, in document 01's order.
-pub record Answer : Type 0 where
-  pub number : ℕ
-  pub floats : List Float
-  pub wholes : List ℤ
-
-abbrev pub refusal : ℕ → Answer
-refusal number = record { number = number; floats = []; wholes = [] }
-
-abbrev pub value : List Float → List ℤ → Answer
-value floats wholes = record { number = 0; floats = floats; wholes = wholes }
-
--- the answer, or what was there before, by the number of the checks: so a refusal gives its number alone, and writes nothing
-unfoldable pub answered : ℕ → Answer → Answer
-answered zero a = a
-answered (suc k) a = refusal (suc k)
-
-unfoldable pub written : ℕ → List Float → List Float → List Float
-written zero new old = new
-written (suc k) new old = old
-
 -- ---- weights: the offset and the four weights; outside has none
 
 unfoldable pub weightsValue : Weights → Answer
@@ -46,8 +26,8 @@ weightsValue (Weights.At offset f) = value (f .w0 ∷ f .w1 ∷ f .w2 ∷ f .w3 
 weightsValue Weights.Outside = value [] []
 
 unfoldable pub weightsTold : WeightsAnswer → Answer
-weightsTold (WeightsAnswer.At offset f) = value (f .w0 ∷ f .w1 ∷ f .w2 ∷ f .w3 ∷ []) (offset ∷ [])
-weightsTold WeightsAnswer.Outside = value [] []
+weightsTold (WeightsAnswer.At offset f) = weightsValue (Weights.At offset f)
+weightsTold WeightsAnswer.Outside = weightsValue Weights.Outside
 weightsTold (WeightsAnswer.Refused number) = refusal number
 
 unfoldable pub weightsNumber : List Float → ℕ

@@ -8,7 +8,8 @@ use Rattle.elementary.specs.Notation.{lit}
 use Rattle.elementary.specs.Root.{sqrt}
 use Rattle.elementary.specs.Exponential.{exp}
 use Rattle.interpolation.specs.Checks.{maxAllowance}
-use Rattle.interpolation.specs.Own.{Answer, refusal, value, weights, integral, cdfAfter, sample2d}
+use Rattle.interpolation.specs.Answer.{Answer, refusal, value}
+use Rattle.interpolation.specs.Own.{weights, integral, cdfAfter, sample2d}
 
 -- ---- the numbers of the table
 
@@ -50,7 +51,7 @@ n1/16 = lit 0x3d80_0000
 abbrev pub n¾ : Float
 n¾ = lit 0x3f40_0000
 
--- 2 - 2^-21
+-- 2 - 2^-21, exactly (`near2-is` of proofs/Table)
 abbrev pub near2 : Float
 near2 = lit 0x3fff_fffc
 
