@@ -1,14 +1,10 @@
 //! Times the proved calls beside the functions of rs_pbrt: ns per call, the least of many turns, in which the two take turns. The
 //! proved calls check their lists each time, and the functions of rs_pbrt check nothing. Each answer is the sum of its floats.
+mod stand_ins;
+
+use stand_ins::StandIns;
 use std::hint::black_box;
 use std::time::Instant;
-
-/// The methods that cut.rs sends elsewhere, as fast as there is.
-trait StandIns {
-    fn stand_in_root(self) -> f32;
-    fn stand_in_max(self, v: f32) -> f32;
-    fn stand_in_abs(self) -> f32;
-}
 
 impl StandIns for f32 {
     fn stand_in_root(self) -> f32 {

@@ -1,4 +1,5 @@
 //! Document 01's calls on a caller's own lists: its checks, in its order, around the functions of rs_pbrt.
+use crate::stand_ins::StandIns;
 use std::cell::Cell;
 use std::panic::{catch_unwind, resume_unwind, AssertUnwindSafe};
 
@@ -21,12 +22,6 @@ thread_local! {
 struct UsedUp;
 
 /// Document 01's stand-ins for methods of a float.
-trait StandIns {
-    fn stand_in_root(self) -> f32;
-    fn stand_in_max(self, v: f32) -> f32;
-    fn stand_in_abs(self) -> f32;
-}
-
 impl StandIns for f32 {
     /// Q: the hardware's root is the nearest one.
     fn stand_in_root(self) -> f32 {

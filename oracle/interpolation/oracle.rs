@@ -13,6 +13,7 @@
 mod calls;
 mod cases;
 mod lists;
+mod stand_ins;
 
 use calls::{Integral, Sample, Weights};
 use cases::Case;
