@@ -1,4 +1,4 @@
--- Check 6 by what the code tests. A value is finite where its size is below infinity (`finite-is`). Where each node is below the next, an inner node is finite, having a value below it and one above it,
+-- Check 6 by what the code tests. A value is finite where it lies between the infinities (`finite-is`). Where each node is below the next, an inner node is finite, having a value below it and one above it,
 -- and the two ends are where their difference is finite: so the first of the three tests follows from the others (`ok-is`). Assumes nothing.
 use mathlib.Core.Path.{_≡_, refl, sym, _∙_}
 use mathlib.Core.Bool.{Bool, true, false, _&&_, false≢true}
@@ -11,13 +11,13 @@ use native.Mathlib.Omega.{arith}
 use lib.ListN.{getD, length}
 use lib.Ieee.{Float, nan, inf, fin, lt, add, sub, neg}
 use Rattle.elementary.specs.Notation.{_⊖_}
-use Rattle.elementary.specs.Sign.{abs}
 use Rattle.interpolation.specs.Nodes.{finite, allBelow, allFinite, increasing, nodesOk}
 
-pub finite-is : (x : Float) → lt (abs x) (inf false) ≡ finite x
-unfolding finite abs lt
+pub finite-is : (x : Float) → (lt (neg (inf false)) x && lt x (inf false)) ≡ finite x
+unfolding finite lt neg
 finite-is nan = refl
-finite-is (inf s) = refl
+finite-is (inf true) = refl
+finite-is (inf false) = refl
 finite-is (fin s m e) = refl
 
 -- ---- each number below n passes, and back

@@ -8,7 +8,8 @@ ghost use Rattle.interpolation.specs.Nodes.{finite, increasing, nodesOk}
 pub fn is_finite(x: f32) -> bool
     ensures { λ r. ⌜ r ≡ finite x ⌝ }
 {
-    elementary::abs(x) < elementary::infinity()
+    let top = elementary::infinity();
+    (-top < x) & (x < top)
 }
 
 // Whether each node is below the next. No early exit, so that several are compared at once.
