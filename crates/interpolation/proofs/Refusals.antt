@@ -1,6 +1,6 @@
 -- What the checks say. The first number that is not 0 is the answer of `firstOf`; where that is 0 every check has passed, and each passed check gives its range. Assumes nothing.
-use mathlib.Core.Path.{_≡_, refl, sym}
-use mathlib.Core.Bool.{Bool, true, false, _&&_, true≢false}
+use mathlib.Core.Path.{_≡_, refl, sym, _∙_}
+use mathlib.Core.Bool.{Bool, true, false, _&&_}
 use mathlib.Core.List.{List, [], _∷_}
 use Prim.Native.Nat.{ℕ, zero, suc, _*_, _≤_, _<_}
 use native.Mathlib.Nat.{le-refl}
@@ -13,6 +13,7 @@ use Rattle.interpolation.specs.Nodes.{nodesOk}
 use Rattle.interpolation.specs.Checks.{maxRows, maxRadii, maxAllowance, unlessPassed, check1, check2, check5, check6, check10, firstOf}
 use Rattle.interpolation.specs.Answer.{Answer, refusal, answered, written}
 use Rattle.interpolation.specs.Own.{weightsNumber, integralNumber, sizesNumber, sampleNumber}
+use Rattle.interpolation.proofs.Finite.{and-left, and-right}
 
 -- ---- the first that refuses
 
@@ -47,8 +48,7 @@ passed number true p h = refl
 passed number false p h = absurd (omega arith)
 
 range : (a b : Bool) → (a && b) ≡ true → (a ≡ true) × (b ≡ true)
-range true b h = (refl, h)
-range false b h = absurd (true≢false (sym h))
+range a b h = (and-left a b h, and-right a b h)
 
 pub rows-in-range : (n : ℕ) → check1 n ≡ 0 → (2 ≤ n) × (n ≤ maxRows)
 unfolding check1
@@ -79,6 +79,10 @@ nodes-accepted nodes h = passed 6 (nodesOk nodes) (omega arith) h
 pub weights-rows : (nodes : List Float) → weightsNumber nodes ≡ 0 → (2 ≤ length nodes) × (length nodes ≤ maxRows)
 unfolding weightsNumber
 weights-rows nodes h = rows-in-range (length nodes) (first-none _ _ h .0)
+
+pub weights-accepted : (nodes : List Float) → weightsNumber nodes ≡ 0 → nodesOk nodes ≡ true
+unfolding weightsNumber
+weights-accepted nodes h = nodes-accepted nodes (sym (first-last (check6 nodes)) ∙ first-none _ _ h .1)
 
 pub record Lengths (n values cdf : ℕ) : Type 0 where
   pub rows : (2 ≤ n) × (n ≤ maxRows)
@@ -112,6 +116,13 @@ pub sample-sizes : (nodes1 nodes2 values cdf : List Float) (u : Float) (allowanc
     → Sizes (length nodes1) (length nodes2) (length values) (length cdf)
 unfolding sampleNumber
 sample-sizes nodes1 nodes2 values cdf u allowance h = sizes-fit _ _ _ _ (first-none _ _ h .0)
+
+pub sample-accepted : (nodes1 nodes2 values cdf : List Float) (u : Float) (allowance : ℕ) → sampleNumber nodes1 nodes2 values cdf u allowance ≡ 0 → (nodesOk nodes1 ≡ true) × (nodesOk nodes2 ≡ true)
+unfolding sampleNumber
+sample-accepted nodes1 nodes2 values cdf u allowance h =
+    let a = first-none _ _ h in
+    let b = first-none (check6 nodes1) _ (a .1) in
+    (nodes-accepted nodes1 (b .0), nodes-accepted nodes2 (first-none (check6 nodes2) _ (b .1) .0))
 
 -- ---- the answer and the list by the number
 
