@@ -18,3 +18,5 @@ pub mod Refusals
 pub mod Allowance
 -- by computation
 pub mod Table
+-- all together
+pub mod Joint

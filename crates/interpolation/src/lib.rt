@@ -4,6 +4,7 @@ pub mod blend;
 pub mod checks;
 pub mod integral;
 pub mod interval;
+pub mod laws;
 pub mod nodes;
 pub mod own;
 pub mod sample;
