@@ -25,7 +25,7 @@ loop-holds c =
     let start = c .before .before .before in
     let passed = start .args .cdf .now in
     let some : 0 < length passed = omega arith in
-    (omega arith, length-set passed 0 _ ∙ start .pre .1 .1, refl, filled-more _ passed 0 _ some refl (filled-none _ passed))
+    (omega arith, simp length-set (start .pre .1 .1), refl, filled-more _ passed 0 _ some refl (filled-none _ passed))
 
 loop-again : tie.Need-loop-again Inv-loop μ-loop
 unfolding sumTo
