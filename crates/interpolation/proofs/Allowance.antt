@@ -14,8 +14,9 @@ use Rattle.interpolation.specs.Solve.{roundOf, firstGuess, solveFrom, so
 use Rattle.interpolation.specs.Weights.{catmullRomWeights}
 use Rattle.interpolation.specs.Sample.{segmentAt, drawn, drawFrom, sampleCatmullRom2d}
 use Rattle.interpolation.specs.Blend.{interpolate, blendInterval}
-use Rattle.interpolation.specs.Checks.{maxAllowance, check6, check9, check10, firstOf}
-use Rattle.interpolation.specs.Answer.{Answer, refusal}
+use Rattle.answers.specs.Checks.{firstOf}
+use Rattle.interpolation.specs.Checks.{maxAllowance, check6, check9, check10}
+use Rattle.answers.specs.Answer.{Answer, refusal}
 use Rattle.interpolation.specs.Own.{sampleTold, sizesNumber, sampleNumber, sample2d}
 use Rattle.interpolation.specs.declared.solve.Segment.{Segment}
 use Rattle.interpolation.specs.declared.solve.Round.{Round}
@@ -25,7 +26,8 @@ use Rattle.interpolation.specs.declared.weights.Weights.{Weights}
 use Rattle.interpolation.specs.declared.weights.Weights.the-variants.{At as WeightsAt, Outside}
 use Rattle.interpolation.specs.declared.sample.Sample.{Sample}
 use Rattle.interpolation.specs.declared.sample.Sample.the-variants.{Refused}
-use Rattle.interpolation.proofs.Refusals.{first-none, allowance-in-range, allowance-passes, not-refused, answers}
+use Rattle.answers.proofs.Refusals.{first-none, not-refused, answers}
+use Rattle.interpolation.proofs.Refusals.{allowance-in-range, allowance-passes}
 
 -- what an end after `rounds` says of the rounds from t, a and b on, after `made`
 pub record Ended (s : Segment) (left made rounds : ℕ) (t a b x v : Float) : Type 0 where

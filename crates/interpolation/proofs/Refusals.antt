@@ -1,51 +1,20 @@
--- What the checks say. The first number that is not 0 is the answer of `firstOf`; where that is 0 every check has passed, and each passed check gives its range. Assumes nothing.
-use mathlib.Core.Path.{_≡_, refl, sym, _∙_}
-use mathlib.Core.Bool.{Bool, true, false, _&&_}
-use mathlib.Core.List.{List, [], _∷_}
-use Prim.Native.Nat.{ℕ, zero, suc, _*_, _≤_, _<_}
-use native.Mathlib.Nat.{le-refl}
+-- What the checks say: each passed check gives its range, and where a call's number is 0 every check of it has passed. Assumes nothing.
+use mathlib.Core.Path.{_≡_, sym, _∙_}
+use mathlib.Core.Bool.{Bool, true, _&&_}
+use mathlib.Core.List.{List}
+use Prim.Native.Nat.{ℕ, _*_, _≤_}
 use native.Mathlib.Omega.{arith}
 use borrow.Author.Tests.{leb-true, le-leb}
 use lib.Dec.{leb, eqb, eqb→eq}
 use lib.ListN.{length}
 use lib.Ieee.{Float}
 use Rattle.interpolation.specs.Nodes.{nodesOk}
-use Rattle.interpolation.specs.Checks.{maxRows, maxRadii, maxAllowance, unlessPassed, check1, check2, check5, check6, check10, firstOf}
-use Rattle.interpolation.specs.Answer.{Answer, refusal, answered, written}
+use Rattle.interpolation.specs.Checks.{maxRows, maxRadii, maxAllowance, check1, check2, check5, check6, check10}
+use Rattle.answers.proofs.Refusals.{first-last, first-none, passed}
 use Rattle.interpolation.specs.Own.{weightsNumber, integralNumber, sizesNumber, sampleNumber}
 use Rattle.interpolation.proofs.Finite.{and-left, and-right}
 
--- ---- the first that refuses
-
-pub first-here : (k : ℕ) (ks : List ℕ) → 0 < k → firstOf (k ∷ ks) ≡ k
-unfolding firstOf
-first-here zero ks h = absurd (omega arith)
-first-here (suc k) ks h = refl
-
-pub first-next : (k : ℕ) (ks : List ℕ) → k ≤ 0 → firstOf (k ∷ ks) ≡ firstOf ks
-unfolding firstOf
-first-next zero ks h = refl
-first-next (suc k) ks h = absurd (omega arith)
-
-pub first-last : (k : ℕ) → firstOf (k ∷ []) ≡ k
-unfolding firstOf
-first-last zero = refl
-first-last (suc k) = refl
-
-pub first-none : (k : ℕ) (ks : List ℕ) → firstOf (k ∷ ks) ≡ 0 → (k ≡ 0) × (firstOf ks ≡ 0)
-unfolding firstOf
-first-none zero ks h = (refl, h)
-first-none (suc k) ks h = absurd (omega arith)
-
 -- ---- what a passed check says
-
--- the number m that a call answered as k was not above 0
-pub nothing : (k m : ℕ) → k ≡ m → k ≤ 0 → m ≡ 0
-nothing k m e l = omega arith
-
-passed : (number : ℕ) (b : Bool) → 0 < number → unlessPassed number b ≡ 0 → b ≡ true
-passed number true p h = refl
-passed number false p h = absurd (omega arith)
 
 range : (a b : Bool) → (a && b) ≡ true → (a ≡ true) × (b ≡ true)
 range a b h = (and-left a b h, and-right a b h)
@@ -123,30 +92,3 @@ sample-accepted nodes1 nodes2 values cdf u allowance h =
     let a = first-none _ _ h in
     let b = first-none (check6 nodes1) _ (a .1) in
     (nodes-accepted nodes1 (b .0), nodes-accepted nodes2 (first-none (check6 nodes2) _ (b .1) .0))
-
--- ---- the answer and the list by the number
-
-pub refuses : (k : ℕ) (a : Answer) → 0 < k → answered k a ≡ refusal k
-unfolding answered
-refuses zero a h = absurd (omega arith)
-refuses (suc k) a h = refl
-
-pub not-refused : (k : ℕ) (a : Answer) → answered k a .number ≡ 0 → k ≤ 0
-unfolding answered
-not-refused zero a h = le-refl 0
-not-refused (suc k) a h = absurd (omega arith)
-
-pub keeps : (k : ℕ) (new old : List Float) → 0 < k → written k new old ≡ old
-unfolding written
-keeps zero new old h = absurd (omega arith)
-keeps (suc k) new old h = refl
-
-pub answers : (k : ℕ) (a : Answer) → k ≤ 0 → answered k a ≡ a
-unfolding answered
-answers zero a h = refl
-answers (suc k) a h = absurd (omega arith)
-
-pub writes : (k : ℕ) (new old : List Float) → k ≤ 0 → written k new old ≡ new
-unfolding written
-writes zero new old h = refl
-writes (suc k) new old h = absurd (omega arith)

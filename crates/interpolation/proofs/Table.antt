@@ -17,8 +17,9 @@ use Rattle.interpolation.specs.Integral.{segmentIntegral, runningSum, in
 use Rattle.interpolation.specs.Blend.{rowOf, addRow, interpolate, blendAtMost, blendInterval}
 use Rattle.interpolation.specs.Solve.{firstGuess, boundedBy, integralAt, valueAt, stops, roundOf, solveFrom, solve}
 use Rattle.interpolation.specs.Sample.{segmentAt, drawn, drawFrom, sampleCatmullRom2d}
-use Rattle.interpolation.specs.Checks.{maxRows, maxRadii, maxAllowance, check1, check2, check5, check6, check9, check10, firstOf}
-use Rattle.interpolation.specs.Answer.{answered, written}
+use Rattle.answers.specs.Checks.{firstOf}
+use Rattle.interpolation.specs.Checks.{maxRows, maxRadii, maxAllowance, check1, check2, check5, check6, check9, check10}
+use Rattle.answers.specs.Answer.{answered, written}
 use Rattle.interpolation.specs.Own.{weightsValue, weightsNumber, weights, integralNumber, integral, cdfAfter, sizesNumber, sampleNumber, sampleTold, sample2d}
 use Rattle.interpolation.specs.ProvedTable.{ProvedTable, near2, n0, n¾, n1, n2, nodes2, nodes3, over0}
 use Rattle.interpolation.proofs.Allowance.{offered-more}

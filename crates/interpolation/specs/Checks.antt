@@ -1,10 +1,11 @@
 -- The checks of document 01's table that concern calls on a caller's own lists. Each gives its number, or 0 where it refuses nothing.
-use Prim.Native.Nat.{ℕ, zero, suc}
-use mathlib.Core.Bool.{Bool, cond, _&&_}
-use mathlib.Core.List.{List, [], _∷_}
+use Prim.Native.Nat.{ℕ}
+use mathlib.Core.Bool.{_&&_}
+use mathlib.Core.List.{List}
 use lib.Dec.{leb, eqb}
 use lib.Ieee.{Float, le}
 use Rattle.elementary.specs.Notation.{lit}
+use Rattle.answers.specs.Checks.{unlessPassed}
 use Rattle.interpolation.specs.Nodes.{nodesOk}
 
 -- the limits
@@ -16,10 +17,6 @@ maxRadii = 64
 
 unfoldable pub maxAllowance : ℕ
 maxAllowance = 1000
-
--- the number, unless the test passes
-abbrev pub unlessPassed : ℕ → Bool → ℕ
-unlessPassed number passed = cond passed 0 number
 
 -- 1: N outside its range
 unfoldable pub check1 : ℕ → ℕ
@@ -44,9 +41,3 @@ check9 u = unlessPassed 9 (le (lit 0) u && le u (lit 0x3f800000))
 -- 10: the allowance outside 1 to 1,000
 unfoldable pub check10 : ℕ → ℕ
 check10 allowance = unlessPassed 10 (leb 1 allowance && leb allowance maxAllowance)
-
--- checks run down the table: the first that refuses gives the number
-unfoldable pub firstOf : List ℕ → ℕ
-firstOf [] = 0
-firstOf (zero ∷ ks) = firstOf ks
-firstOf (suc k ∷ ks) = suc k

@@ -8,7 +8,6 @@ pub mod Blend
 pub mod Solve
 pub mod Sample
 pub mod Checks
-pub mod Answer
 pub mod Own
 pub mod Laws
 pub mod ProvedTable

@@ -8,8 +8,9 @@ use Rattle.elementary.specs.Notation.{lit}
 use Rattle.interpolation.specs.Weights.{catmullRomWeights}
 use Rattle.interpolation.specs.Integral.{integrateCatmullRom, cdfOf}
 use Rattle.interpolation.specs.Sample.{sampleCatmullRom2d}
-use Rattle.interpolation.specs.Answer.{Answer, refusal, value, answered, written}
-use Rattle.interpolation.specs.Checks.{check1, check2, check5, check6, check9, check10, firstOf}
+use Rattle.answers.specs.Answer.{Answer, refusal, value, answered, written}
+use Rattle.answers.specs.Checks.{firstOf}
+use Rattle.interpolation.specs.Checks.{check1, check2, check5, check6, check9, check10}
 use Rattle.interpolation.specs.declared.weights.Weights.{Weights}
 use Rattle.interpolation.specs.declared.weights.Weights.the-variants as Weights
 use Rattle.interpolation.specs.declared.sample.Sample.{Sample}

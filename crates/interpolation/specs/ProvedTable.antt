@@ -8,7 +8,7 @@ use Rattle.elementary.specs.Notation.{lit}
 use Rattle.elementary.specs.Root.{sqrt}
 use Rattle.elementary.specs.Exponential.{exp}
 use Rattle.interpolation.specs.Checks.{maxAllowance}
-use Rattle.interpolation.specs.Answer.{Answer, refusal, value}
+use Rattle.answers.specs.Answer.{Answer, refusal, value}
 use Rattle.interpolation.specs.Own.{weights, integral, cdfAfter, sample2d}
 
 -- ---- the numbers of the table

@@ -2,7 +2,7 @@
 use mathlib.Core.List.{List, [], _∷_}
 use lib.Ieee.{Float, nan}
 use Rattle.elementary.specs.Notation.{_⊕_}
-use Rattle.interpolation.specs.Answer.{Answer}
+use Rattle.answers.specs.Answer.{Answer}
 
 -- a float, and the floats of a list added one by one
 unfoldable pub added : Float → List Float → Float

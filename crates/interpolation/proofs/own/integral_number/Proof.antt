@@ -1,7 +1,8 @@
 -- `interpolation::own::integral_number` meets its contract. Assumes nothing.
 use borrow.Author.Needs.{needs}
 use Rattle.interpolation.specs.Own.{integralNumber}
-use Rattle.interpolation.proofs.Refusals.{first-here, first-next, first-last, nothing, rows-in-range}
+use Rattle.answers.proofs.Refusals.{first-here, first-next, first-last, nothing}
+use Rattle.interpolation.proofs.Refusals.{rows-in-range}
 use Rattle.interpolation.proofs.own.integral_number.Statement.{statement}
 use Rattle.interpolation.proofs.own.integral_number.Tie as tie
 

@@ -3,7 +3,8 @@ use borrow.Author.Needs.{needs}
 use native.Mathlib.Nat.{le-trans}
 use lib.Dec.{lit≤}
 use Rattle.interpolation.specs.Own as Own
-use Rattle.interpolation.proofs.Refusals.{nothing, refuses, keeps, answers, writes, integral-lengths}
+use Rattle.answers.proofs.Refusals.{nothing, refuses, keeps, answers, writes}
+use Rattle.interpolation.proofs.Refusals.{integral-lengths}
 use Rattle.interpolation.proofs.own.integrate.Statement.{statement}
 use Rattle.interpolation.proofs.own.integrate.Tie as tie
 

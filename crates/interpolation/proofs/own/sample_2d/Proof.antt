@@ -4,7 +4,8 @@ use native.Mathlib.Nat.{le-trans}
 use lib.Dec.{lit≤}
 use Rattle.interpolation.specs.Checks.{maxRows}
 use Rattle.interpolation.specs.Own as Own
-use Rattle.interpolation.proofs.Refusals.{nothing, refuses, answers, sample-sizes}
+use Rattle.answers.proofs.Refusals.{nothing, refuses, answers}
+use Rattle.interpolation.proofs.Refusals.{sample-sizes}
 use Rattle.interpolation.proofs.own.sample_2d.Statement.{statement}
 use Rattle.interpolation.proofs.own.sample_2d.Tie as tie
 

@@ -2,7 +2,8 @@
 use borrow.Author.Needs.{needs}
 use lib.ListN.{length}
 use Rattle.interpolation.specs.Own.{sampleNumber}
-use Rattle.interpolation.proofs.Refusals.{first-here, first-next, first-last, nothing, Sizes, sizes-fit}
+use Rattle.answers.proofs.Refusals.{first-here, first-next, first-last, nothing}
+use Rattle.interpolation.proofs.Refusals.{Sizes, sizes-fit}
 use Rattle.interpolation.proofs.own.sample_number.Statement.{statement}
 use Rattle.interpolation.proofs.own.sample_number.Tie as tie
 

@@ -5,7 +5,8 @@ use native.Mathlib.Nat.{mul-le-mul}
 use native.Mathlib.Omega.{arith}
 use Rattle.interpolation.specs.Checks.{maxRows, maxRadii}
 use Rattle.interpolation.specs.Own.{sizesNumber}
-use Rattle.interpolation.proofs.Refusals.{first-here, first-next, first-last, nothing, rows-in-range, radii-in-range}
+use Rattle.answers.proofs.Refusals.{first-here, first-next, first-last, nothing}
+use Rattle.interpolation.proofs.Refusals.{rows-in-range, radii-in-range}
 use Rattle.interpolation.proofs.own.sizes_number.Statement.{statement}
 use Rattle.interpolation.proofs.own.sizes_number.Tie as tie
 

@@ -6,7 +6,8 @@ use mir.Syntax.{w32}
 use mir.Facts.{toZ-ofZ}
 use Rattle.interpolation.specs.Checks.{maxRows}
 use Rattle.interpolation.specs.Own as Own
-use Rattle.interpolation.proofs.Refusals.{nothing, refuses, answers, weights-rows}
+use Rattle.answers.proofs.Refusals.{nothing, refuses, answers}
+use Rattle.interpolation.proofs.Refusals.{weights-rows}
 use Rattle.interpolation.proofs.own.weights.Statement.{statement}
 use Rattle.interpolation.proofs.own.weights.Tie as tie
 

@@ -1,7 +1,8 @@
 -- `interpolation::own::weights_number` meets its contract. Assumes nothing.
 use borrow.Author.Needs.{needs}
 use Rattle.interpolation.specs.Own.{weightsNumber}
-use Rattle.interpolation.proofs.Refusals.{first-here, first-next, first-last, nothing, rows-in-range}
+use Rattle.answers.proofs.Refusals.{first-here, first-next, first-last, nothing}
+use Rattle.interpolation.proofs.Refusals.{rows-in-range}
 use Rattle.interpolation.proofs.own.weights_number.Statement.{statement}
 use Rattle.interpolation.proofs.own.weights_number.Tie as tie
 

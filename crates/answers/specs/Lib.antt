@@ -1,0 +1,3 @@
+-- The definitions that other crates cite.
+pub mod Answer
+pub mod Checks
