@@ -7,7 +7,7 @@ use Rattle.elementary.specs.Notation.{lit}
 use Rattle.elementary.specs.Units.{mag}
 use Rattle.elementary.specs.Convert.{rounded}
 use Rattle.elementary.specs.Root.{digits, rootOf, sqrt}
-use Rattle.elementary.specs.Exponential.{terms, squared, expSeries, exp}
+use Rattle.elementary.specs.Exponential.{terms, squared, series, exp}
 use Rattle.elementary.specs.Logarithm.{odds, lnSeries, ln}
 
 -- Q(2) has bits 3FB504F3
@@ -22,7 +22,7 @@ sqrt-of-small = refl
 
 -- E(0) = 1
 pub exp-of-zero : exp (fin false 0 (pos 0)) ≡ fin false 1 (pos 0)
-unfolding exp expSeries terms squared rounded isNan lt le neg add mul div ofInt ofBits
+unfolding exp series terms squared rounded isNan lt le neg add mul div ofInt ofBits
 exp-of-zero = refl
 
 -- L(1/2) is the nearest value to -ln 2, -0.6931472

@@ -13,6 +13,7 @@ pub mod Quotients
 mod Rounding
 -- lists
 pub mod Filled
+pub mod Mapped
 -- the root
 pub mod Squares
 pub mod Nearest

@@ -19,10 +19,10 @@ unfoldable pub squared : ℕ → Float → Float
 squared zero p = p
 squared (suc n) p = squared n (p ⊠ p)
 
--- y = x / 256; p = 1; the terms for k = 10 down to 1; squared eight times; rounded
-unfoldable pub expSeries : Float → Float
-expSeries x = let y = widen x ⧄ c256 in narrow (squared 8 (terms 10 y one64))
+-- y = x / 256; p = 1; the terms for k = 10 down to 1; squared eight times
+unfoldable pub series : Float → Float
+series x = let y = widen x ⧄ c256 in squared 8 (terms 10 y one64)
 
--- NaN gives NaN; below -104 gives +0; 89 or more gives +infinity
+-- NaN gives NaN; below -104 gives +0; 89 or more gives +infinity; else the series, rounded
 unfoldable pub exp : Float → Float
-exp x = cond (isNan x) nan (cond (lt x (neg (lit 0x42d0_0000))) (lit 0) (cond (le (lit 0x42b2_0000) x) (inf false) (expSeries x)))
+exp x = cond (isNan x) nan (cond (lt x (neg (lit 0x42d0_0000))) (lit 0) (cond (le (lit 0x42b2_0000) x) (inf false) (narrow (series x))))

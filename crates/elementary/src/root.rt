@@ -1,8 +1,10 @@
 // Q, the square root of an `f32`, by a root of whole numbers.
 use super::constants::nan;
 ghost use mathlib.Core.Path.{_≡_};
+ghost use mathlib.Core.List.{map};
 ghost use Prim.Native.Nat.{ℕ, _+_, _*_, _^_, _<_, _≤_};
 ghost use Rattle.elementary.specs.Units.{unitsOf, Normalised};
+ghost use Rattle.elementary.specs.Root as Root;
 ghost use Rattle.elementary.specs.Root.{nearestRoot, rootOf, Root};
 
 // The whole number nearest to the root of n, a binary digit at a time.
@@ -121,4 +123,14 @@ pub fn sqrt(x: f32) -> f32
     }
     let normal = normalise(field, digits);
     root_of(normal.q, normal.length)
+}
+
+// The square root of each element, in its place.
+pub fn sqrt_each(xs: &mut [f32])
+    ensures { λ r. ⌜ now (xs .exit) ≡ map Root.sqrt (now (xs .entry)) ⌝ }
+{
+    let n = xs.len();
+    for i in 0..n {
+        xs[i] = sqrt(xs[i]);
+    }
 }

@@ -7,7 +7,7 @@ use Rattle.elementary.specs.Units.{mag}
 use Rattle.elementary.specs.Convert.{rounded}
 use Rattle.elementary.specs.Sign.{abs, max0}
 use Rattle.elementary.specs.Root.{digits, rootOf, sqrt}
-use Rattle.elementary.specs.Exponential.{terms, squared, expSeries, exp}
+use Rattle.elementary.specs.Exponential.{terms, squared, series, exp}
 use Rattle.units.specs.Units.{plus}
 use Rattle.interpolation.specs.Interval.{bisect, findInterval, atMost, nodeInterval}
 use Rattle.interpolation.specs.Nodes.{finite, allBelow, allFinite, increasing, nodesOk}
@@ -25,7 +25,7 @@ use Rattle.interpolation.specs.ProvedTable.{ProvedTable, near2, n0, n¾,
 use Rattle.interpolation.proofs.Allowance.{offered-more}
 
 pub proved : ProvedTable
-unfolding size units isNan add sub mul div neg lt le eq ofInt ofBits round sumTo from listOf mag rounded abs max0 digits rootOf sqrt terms squared expSeries exp bisect findInterval atMost nodeInterval finite allBelow allFinite increasing nodesOk within firstPart lastPart fourAt offsetOf catmullRomWeights width slopeBefore slopeAfter segmentIntegral runningSum integrateCatmullRom cdfOf rowOf addRow interpolate blendAtMost blendInterval firstGuess boundedBy integralAt valueAt stops roundOf solveFrom solve segmentAt drawn drawFrom sampleCatmullRom2d maxRows maxRadii maxAllowance check1 check2 check5 check6 check9 check10 firstOf answered written weightsValue weightsNumber weights integralNumber integral cdfAfter sizesNumber sampleNumber sampleTold sample2d
+unfolding size units isNan add sub mul div neg lt le eq ofInt ofBits round sumTo from listOf mag rounded abs max0 digits rootOf sqrt terms squared series exp bisect findInterval atMost nodeInterval finite allBelow allFinite increasing nodesOk within firstPart lastPart fourAt offsetOf catmullRomWeights width slopeBefore slopeAfter segmentIntegral runningSum integrateCatmullRom cdfOf rowOf addRow interpolate blendAtMost blendInterval firstGuess boundedBy integralAt valueAt stops roundOf solveFrom solve segmentAt drawn drawFrom sampleCatmullRom2d maxRows maxRadii maxAllowance check1 check2 check5 check6 check9 check10 firstOf answered written weightsValue weightsNumber weights integralNumber integral cdfAfter sizesNumber sampleNumber sampleTold sample2d
 proved =
     record {
       at-0 = refl;

@@ -1,0 +1,58 @@
+-- A loop that replaces each element of a list of floats by a function of it, from the front: after i turns the first i are done and the rest are as they were, and a list that is done to its end is `map`. Assumes nothing.
+use mathlib.Core.Path.{_≡_, refl, sym, _∙_, ap}
+use mathlib.Core.List.{List, [], _∷_, map}
+use Prim.Native.Nat.{ℕ, zero, suc, _+_, _<_, _≤_}
+use native.Mathlib.Nat.{ne-of-lt, lt-irrefl}
+use native.Mathlib.Omega.{arith}
+use lib.ListN.{length, length-set, getD, set}
+use lib.Seq.{getD-set-other, ext-getD}
+use lib.Ieee.{Float, nan}
+use Rattle.elementary.specs.Lists.{from, listOf}
+use Rattle.elementary.proofs.Filled.{Filled, filled-none, filled-more}
+
+-- ---- `map` by its elements
+
+pub length-map : (f : Float → Float) (xs : List Float) → length (map f xs) ≡ length xs
+length-map f [] = refl
+length-map f (x ∷ xs) = ap suc (length-map f xs)
+
+pub getD-map : (f : Float → Float) (xs : List Float) (k : ℕ) → k < length xs → getD (map f xs) k nan ≡ f (getD xs k nan)
+getD-map f [] k h = absurd (omega arith)
+getD-map f (x ∷ xs) zero h = refl
+getD-map f (x ∷ xs) (suc k) h = getD-map f xs k (omega arith)
+
+map-from : (g : Float → Float) (n s : ℕ) (f : ℕ → Float) → map g (from s n f) ≡ from s n (λ k. g (f k))
+unfolding from
+map-from g zero s f = refl
+map-from g (suc n) s f = ap (λ (ys : List Float). g (f s) ∷ ys) (map-from g n (suc s) f)
+
+pub map-listOf : (g : Float → Float) (n : ℕ) (f : ℕ → Float) → map g (listOf n f) ≡ listOf n (λ k. g (f k))
+unfolding listOf
+map-listOf g n f = map-from g n 0 f
+
+-- ---- the loop
+
+-- `xs` was `old`, and its first i elements are done
+pub record Mapped (f : Float → Float) (old xs : List Float) (i : ℕ) : Type 0 where
+  pub as-long : length xs ≡ length old
+  pub done : Filled (λ k. f (getD old k nan)) xs i
+  pub rest : (k : ℕ) → i ≤ k → getD xs k nan ≡ getD old k nan
+
+pub mapped-none : (f : Float → Float) (old : List Float) → Mapped f old old 0
+mapped-none f old = record { as-long = refl; done = filled-none _ old; rest = λ k h. refl }
+
+pub mapped-more : (f : Float → Float) (old xs : List Float) (i : ℕ) (v : Float) → i < length xs → v ≡ f (getD xs i nan) → Mapped f old xs i → Mapped f old (set xs i v) (i + 1)
+mapped-more f old xs i v h e m =
+    record {
+      as-long = length-set xs i v ∙ m .as-long;
+      done = filled-more _ xs i v h (e ∙ ap f (m .rest i (omega arith))) (m .done);
+      rest = λ k l. getD-set-other xs i k v nan (λ (q : k ≡ i). omega arith) ∙ m .rest k (omega arith);
+    }
+
+-- a list that is filled to its end with f of another's elements
+pub filled-map : (f : Float → Float) (old xs : List Float) → length xs ≡ length old → Filled (λ k. f (getD old k nan)) xs (length old) → xs ≡ map f old
+filled-map f old xs e done =
+    ext-getD nan xs (map f old) (e ∙ sym (length-map f old)) (λ k h. let l : k < length old = omega arith in done k l ∙ sym (getD-map f old k l))
+
+pub mapped-all : (f : Float → Float) (old xs : List Float) → Mapped f old xs (length old) → xs ≡ map f old
+mapped-all f old xs m = filled-map f old xs (m .as-long) (m .done)
