@@ -1,5 +1,5 @@
 -- A loop that fills a list of floats from the front, one store a turn: after i turns the first i elements are those of `listOf`, and a list that is filled to its end is `listOf`. Assumes nothing.
-use mathlib.Core.Path.{_≡_, refl, sym, _∙_, ap}
+use mathlib.Core.Path.{_≡_, refl, sym, _∙_, ap, ap₂}
 use mathlib.Core.List.{List}
 use Prim.Native.Nat.{ℕ, zero, suc, _+_, _<_}
 use native.Mathlib.Nat.{ne-of-lt, add-zero, zero-add}
@@ -8,7 +8,8 @@ use borrow.Author.Count.{below-more, below-none}
 use lib.ListN.{length, getD, set}
 use lib.Seq.{getD-set-same, getD-set-other, ext-getD}
 use lib.Ieee.{Float, nan}
-use Rattle.elementary.specs.Lists.{from, listOf}
+use Rattle.elementary.specs.Notation.{_⊕_}
+use Rattle.elementary.specs.Lists.{sumTo, from, listOf}
 
 -- the first i elements are f 0, f 1, ..
 abbrev pub Filled : (ℕ → Float) → List Float → ℕ → Type 0
@@ -47,3 +48,12 @@ getD-listOf n f k h = getD-from n 0 f k h ∙ ap f (zero-add k)
 pub filled-all : (f : ℕ → Float) (xs : List Float) (n : ℕ) → length xs ≡ n → Filled f xs n → xs ≡ listOf n f
 filled-all f xs n e g =
     ext-getD nan xs (listOf n f) (e ∙ sym (length-listOf n f)) (λ k h. let l : k < n = omega arith in g k l ∙ sym (getD-listOf n f k l))
+
+-- what is the same below n
+pub listOf-same : (n : ℕ) (f g : ℕ → Float) → ((k : ℕ) → k < n → f k ≡ g k) → listOf n f ≡ listOf n g
+listOf-same n f g h = filled-all g (listOf n f) n (length-listOf n f) (λ k l. getD-listOf n f k l ∙ h k l)
+
+pub sumTo-same : (n : ℕ) (f g : ℕ → Float) → ((k : ℕ) → k < n → f k ≡ g k) → sumTo f n ≡ sumTo g n
+unfolding sumTo
+sumTo-same zero f g h = refl
+sumTo-same (suc n) f g h = ap₂ (λ (s t : Float). s ⊕ t) (sumTo-same n f g (λ k l. h k (omega arith))) (h n (omega arith))

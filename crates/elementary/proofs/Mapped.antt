@@ -1,14 +1,13 @@
 -- A loop that replaces each element of a list of floats by a function of it, from the front: after i turns the first i are done and the rest are as they were, and a list that is done to its end is `map`. Assumes nothing.
-use mathlib.Core.Path.{_≡_, refl, sym, _∙_, ap}
+use mathlib.Core.Path.{_≡_, refl, sym, _∙_, ap, ap₂}
 use mathlib.Core.List.{List, [], _∷_, map}
 use Prim.Native.Nat.{ℕ, zero, suc, _+_, _<_, _≤_}
-use native.Mathlib.Nat.{ne-of-lt, lt-irrefl}
 use native.Mathlib.Omega.{arith}
 use lib.ListN.{length, length-set, getD, set}
 use lib.Seq.{getD-set-other, ext-getD}
 use lib.Ieee.{Float, nan}
 use Rattle.elementary.specs.Lists.{from, listOf}
-use Rattle.elementary.proofs.Filled.{Filled, filled-none, filled-more}
+use Rattle.elementary.proofs.Filled.{Filled, filled-none, filled-more, length-listOf, getD-listOf, listOf-same}
 
 -- ---- `map` by its elements
 
@@ -21,6 +20,16 @@ getD-map f [] k h = absurd (omega arith)
 getD-map f (x ∷ xs) zero h = refl
 getD-map f (x ∷ xs) (suc k) h = getD-map f xs k (omega arith)
 
+pub length-mapped : (f : Float → Float) (old xs : List Float) → xs ≡ map f old → length xs ≡ length old
+length-mapped f old xs e = ap length e ∙ length-map f old
+
+pub getD-mapped : (f : Float → Float) (old xs : List Float) (k : ℕ) → xs ≡ map f old → k < length old → getD xs k nan ≡ f (getD old k nan)
+getD-mapped f old xs k e h = ap (λ (ys : List Float). getD ys k nan) e ∙ getD-map f old k h
+
+pub map-map : (g f : Float → Float) (xs : List Float) → map g (map f xs) ≡ map (λ x. g (f x)) xs
+map-map g f [] = refl
+map-map g f (x ∷ xs) = ap (λ (ys : List Float). g (f x) ∷ ys) (map-map g f xs)
+
 map-from : (g : Float → Float) (n s : ℕ) (f : ℕ → Float) → map g (from s n f) ≡ from s n (λ k. g (f k))
 unfolding from
 map-from g zero s f = refl
@@ -29,6 +38,23 @@ map-from g (suc n) s f = ap (λ (ys : List Float). g (f s) ∷ ys) (map-from g n
 pub map-listOf : (g : Float → Float) (n : ℕ) (f : ℕ → Float) → map g (listOf n f) ≡ listOf n (λ k. g (f k))
 unfolding listOf
 map-listOf g n f = map-from g n 0 f
+
+-- ---- lists that a function of the index gives, below n
+
+pub getD-listed : (n : ℕ) (f : ℕ → Float) (xs : List Float) → xs ≡ listOf n f → (k : ℕ) → k < n → getD xs k nan ≡ f k
+getD-listed n f xs e k h = ap (λ (ys : List Float). getD ys k nan) e ∙ getD-listOf n f k h
+
+pub length-listed : (n : ℕ) (f : ℕ → Float) (xs : List Float) → xs ≡ listOf n f → length xs ≡ n
+length-listed n f xs e = ap length e ∙ length-listOf n f
+
+-- a list that is made of such a list, element by element
+pub mapped-listed : (g : Float → Float) (n : ℕ) (f : ℕ → Float) (old xs : List Float) → old ≡ listOf n f → xs ≡ map g old → xs ≡ listOf n (λ k. g (f k))
+mapped-listed g n f old xs e m = m ∙ ap (map g) e ∙ map-listOf g n f
+
+-- and one that is made of two
+pub paired-listed : (h : Float → Float → Float) (n : ℕ) (f g : ℕ → Float) (xs ys : List Float) → xs ≡ listOf n f → ys ≡ listOf n g
+    → listOf n (λ k. h (getD xs k nan) (getD ys k nan)) ≡ listOf n (λ k. h (f k) (g k))
+paired-listed h n f g xs ys d e = listOf-same n _ _ (λ k l. ap₂ h (getD-listed n f xs d k l) (getD-listed n g ys e k l))
 
 -- ---- the loop
 

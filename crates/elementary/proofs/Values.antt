@@ -13,7 +13,7 @@ use lib.Pow.{pow-pos}
 use lib.Dec.{T, leb, eqb, eqb→eq, eqb-refl, not-T}
 use lib.Ieee.{Float, nan, inf, fin, Format, binary32, binary64, prec, emax, low, up, down, size, odd, fits, isNan, ne, hid, ones, top, ofFields, ofBits, toBits}
 use lib.Ieee.Fits.{down-pos}
-use lib.Ieee.Bits.{ofBits-toBits, cond-no, is-true}
+use lib.Ieee.Bits.{ofBits-toBits, cond-no, is-true, is-false}
 use lib.Ieee.Compare.{differs-from-itself}
 use lib.Ieee.Exact.{HasValue, odd-sign}
 use lib.Ieee.Positive.{positive}
@@ -78,6 +78,14 @@ unfolding ne isNan
 equals-itself nan h = absurd (true≢false h)
 equals-itself (inf s) h = tt
 equals-itself (fin s m e) h = tt
+
+pub ne-itself : (x : Float) → ne x x ≡ isNan x
+unfolding isNan
+ne-itself x = told x (ne x x) refl
+  where
+    told : (x : Float) (b : Bool) → ne x x ≡ b → b ≡ isNan x
+    told x true h = ap isNan (sym (is-nan x h))
+    told x false h = sym (is-false (isNan x) (equals-itself x h))
 
 ofBits-is : (f : Format) (b : ℕ) → ofBits f b ≡ ofFields f (leb (top f) b) (b % top f / hid f) (b % hid f)
 unfolding ofBits

@@ -1,12 +1,9 @@
 -- `elementary::exponential::exp_of_each` meets its contract. The invariant: the elements so far are replaced by their exponentials, and the rest are as they were, so the room holds the series of each that is still to come. Assumes nothing.
-use borrow.Author.Needs.{needs}
 use mathlib.Core.Path.{_≡_, refl, sym, ap, _∙_}
-use mathlib.Core.List.{map}
 use Prim.Native.Nat.{_-_, _≤_, _<_}
 use native.Mathlib.Nat.{le-refl}
 use native.Mathlib.Omega.{arith}
-use lib.ListN.{length, getD}
-use lib.Ieee.{nan}
+use lib.ListN.{length}
 use Rattle.elementary.specs.Exponential.{series, exp}
 use Rattle.elementary.proofs.Mapped.{Mapped, mapped-none, mapped-more, mapped-all, length-map, getD-map}
 use Rattle.elementary.proofs.exponential.exp_of_each.Statement.{statement}

@@ -1,0 +1,62 @@
+-- `scattering::multiple::sum` meets its contract. The invariant: the sum is that of the samples so far. Assumes nothing.
+use borrow.Author.Needs.{needs}
+use mathlib.Core.Path.{_≡_, refl}
+use Prim.Native.Nat.{_-_, _≤_}
+use native.Mathlib.Numerals.{add-one}
+use native.Mathlib.Omega.{arith}
+use lib.ListN.{length, getD}
+use lib.Ieee.{nan}
+use Rattle.elementary.specs.Lists.{sumTo}
+use Rattle.scattering.specs.Multiple.{msTerm}
+use Rattle.scattering.proofs.multiple.sum.Statement.{statement}
+use Rattle.scattering.proofs.multiple.sum.Tie as tie
+
+abbrev Inv-loop : tie.InvT-loop
+Inv-loop p zr zv dr dv er ev ek n ed₀ i₀ ed i =
+    (i ≤ n) × (ed ≡ sumTo (λ k. msTerm p (getD zr k nan) (getD zv k nan) (getD dr k nan) (getD dv k nan) (getD er k nan) (getD ev k nan) (getD ek k nan)) i)
+
+abbrev μ-loop : tie.MeasureT-loop
+μ-loop p zr zv dr dv er ev ek n ed₀ i₀ ed i = n - i
+
+loop-holds : tie.Need-loop-holds Inv-loop μ-loop
+unfolding sumTo
+loop-holds c = (omega arith, refl)
+
+loop-again : tie.Need-loop-again Inv-loop μ-loop
+unfolding sumTo
+loop-again c =
+    let at = c .before .before .before .before .before .before .before .before .before in
+    (omega arith, rw (add-one, c .term .ensures, ← at .loop .inv .1))
+
+returns : tie.Need-returns Inv-loop μ-loop
+returns c =
+    let at = c .before in
+    let all : at .loop .i ≡ length (at .before .before .before .before .before .before .before .before .args .zr .now) = omega arith in
+    rw all at (at .loop .inv .1)
+
+pub sum-spec : {M : Type 1} → statement M
+sum-spec =
+    tie.close
+    (tie.spec
+    Inv-loop
+    μ-loop
+    loop-holds
+    (λ c. omega arith)
+    (λ c. omega arith)
+    (λ c. omega arith)
+    (λ c. omega arith)
+    (λ c. omega arith)
+    (λ c. omega arith)
+    (λ c. omega arith)
+    (λ c. omega arith)
+    (λ c. omega arith)
+    (λ c. omega arith)
+    (λ c. omega arith)
+    (λ c. omega arith)
+    (λ c. omega arith)
+    (λ c. omega arith)
+    (λ c κs. search needs)
+    (λ c. omega arith)
+    (λ c. omega arith)
+    loop-again
+    returns)
