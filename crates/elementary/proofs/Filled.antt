@@ -1,11 +1,11 @@
 -- A loop that fills a list of floats from the front, one store a turn: after i turns the first i elements are those of `listOf`, and a list that is filled to its end is `listOf`. Assumes nothing.
 use mathlib.Core.Path.{_≡_, refl, sym, _∙_, ap, ap₂}
 use mathlib.Core.List.{List}
-use Prim.Native.Nat.{ℕ, zero, suc, _+_, _<_}
+use Prim.Native.Nat.{ℕ, zero, suc, _+_, _<_, _≤_}
 use native.Mathlib.Nat.{ne-of-lt, add-zero, zero-add}
 use native.Mathlib.Omega.{arith}
 use borrow.Author.Count.{below-more, below-none}
-use lib.ListN.{length, getD, set}
+use lib.ListN.{length, length-set, getD, set}
 use lib.Seq.{getD-set-same, getD-set-other, ext-getD}
 use lib.Ieee.{Float, nan}
 use Rattle.elementary.specs.Notation.{_⊕_}
@@ -49,7 +49,28 @@ pub filled-all : (f : ℕ → Float) (xs : List Float) (n : ℕ) → length xs �
 filled-all f xs n e g =
     ext-getD nan xs (listOf n f) (e ∙ sym (length-listOf n f)) (λ k h. let l : k < n = omega arith in g k l ∙ sym (getD-listOf n f k l))
 
--- what is the same below n
+-- ---- the loop as a whole: after i turns out of n
+
+pub record Fills (f : ℕ → Float) (xs : List Float) (n i : ℕ) : Type 0 where
+  pub within : i ≤ n
+  pub as-long : length xs ≡ n
+  pub done : Filled f xs i
+
+pub fills-none : (f : ℕ → Float) {xs : List Float} {n : ℕ} → length xs ≡ n → Fills f xs n 0
+fills-none f {xs = xs} e = record { within = omega arith; as-long = e; done = filled-none f xs }
+
+pub fills-more : {f : ℕ → Float} {xs : List Float} {n i : ℕ} {v : Float} → i < n → v ≡ f i → Fills f xs n i → Fills f (set xs i v) n (i + 1)
+fills-more {xs = xs} {i = i} {v = v} h e l =
+    let inside : i < length xs = omega (arith, l .as-long) in
+    record { within = omega arith; as-long = length-set xs i v ∙ l .as-long; done = filled-more _ xs i v inside e (l .done) }
+
+pub fills-all : {f : ℕ → Float} {xs : List Float} {n i : ℕ} → n ≤ i → Fills f xs n i → xs ≡ listOf n f
+fills-all {f = f} {xs = xs} {n = n} {i = i} h l =
+    let e : i ≡ n = omega (arith, l .within) in
+    filled-all f xs n (l .as-long) (rw e at (l .done))
+
+-- ---- what is the same below n
+
 pub listOf-same : (n : ℕ) (f g : ℕ → Float) → ((k : ℕ) → k < n → f k ≡ g k) → listOf n f ≡ listOf n g
 listOf-same n f g h = filled-all g (listOf n f) n (length-listOf n f) (λ k l. getD-listOf n f k l ∙ h k l)
 

@@ -1,4 +1,4 @@
--- A loop that replaces each element of a list of floats by a function of it, from the front: after i turns the first i are done and the rest are as they were, and a list that is done to its end is `map`. Assumes nothing.
+-- Lists that are a function of another, element by element: `map` by its elements, and the loops that make such a list, in its place or in another. Assumes nothing.
 use mathlib.Core.Path.{_≡_, refl, sym, _∙_, ap, ap₂}
 use mathlib.Core.List.{List, [], _∷_, map}
 use Prim.Native.Nat.{ℕ, zero, suc, _+_, _<_, _≤_}
@@ -7,7 +7,7 @@ use lib.ListN.{length, length-set, getD, set}
 use lib.Seq.{getD-set-other, ext-getD}
 use lib.Ieee.{Float, nan}
 use Rattle.elementary.specs.Lists.{from, listOf}
-use Rattle.elementary.proofs.Filled.{Filled, filled-none, filled-more, length-listOf, getD-listOf, listOf-same}
+use Rattle.elementary.proofs.Filled.{Filled, Fills, filled-none, filled-more, length-listOf, getD-listOf, listOf-same}
 
 -- ---- `map` by its elements
 
@@ -56,7 +56,7 @@ pub paired-listed : (h : Float → Float → Float) (n : ℕ) (f g : ℕ → Flo
     → listOf n (λ k. h (getD xs k nan) (getD ys k nan)) ≡ listOf n (λ k. h (f k) (g k))
 paired-listed h n f g xs ys d e = listOf-same n _ _ (λ k l. ap₂ h (getD-listed n f xs d k l) (getD-listed n g ys e k l))
 
--- ---- the loop
+-- ---- a loop that replaces each element in its place
 
 -- `xs` was `old`, and its first i elements are done
 pub record Mapped (f : Float → Float) (old xs : List Float) (i : ℕ) : Type 0 where
@@ -75,10 +75,21 @@ mapped-more f old xs i v h e m =
       rest = λ k l. getD-set-other xs i k v nan (λ (q : k ≡ i). omega arith) ∙ m .rest k (omega arith);
     }
 
--- a list that is filled to its end with f of another's elements
-pub filled-map : (f : Float → Float) (old xs : List Float) → length xs ≡ length old → Filled (λ k. f (getD old k nan)) xs (length old) → xs ≡ map f old
+filled-map : (f : Float → Float) (old xs : List Float) → length xs ≡ length old → Filled (λ k. f (getD old k nan)) xs (length old) → xs ≡ map f old
 filled-map f old xs e done =
     ext-getD nan xs (map f old) (e ∙ sym (length-map f old)) (λ k h. let l : k < length old = omega arith in done k l ∙ sym (getD-map f old k l))
 
 pub mapped-all : (f : Float → Float) (old xs : List Float) → Mapped f old xs (length old) → xs ≡ map f old
 mapped-all f old xs m = filled-map f old xs (m .as-long) (m .done)
+
+-- ---- a loop that fills another list with f of each element
+
+pub fills-map : (f : Float → Float) (old : List Float) {xs : List Float} {i : ℕ} → length old ≤ i → Fills (λ k. f (getD old k nan)) xs (length old) i → xs ≡ map f old
+fills-map f old {xs = xs} {i = i} h l =
+    let e : i ≡ length old = omega (arith, l .within) in
+    filled-map f old xs (l .as-long) (rw e at (l .done))
+
+-- and then replaces each of those by g of it
+pub fills-then : (g f : Float → Float) (old : List Float) {xs ys : List Float} {i : ℕ} → length old ≤ i → Fills (λ k. f (getD old k nan)) xs (length old) i → ys ≡ map g xs
+    → ys ≡ map (λ x. g (f x)) old
+fills-then g f old h l e = e ∙ ap (map g) (fills-map f old h l) ∙ map-map g f old

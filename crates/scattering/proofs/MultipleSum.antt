@@ -14,7 +14,7 @@ use Rattle.scattering.specs.Samples.{nSamples, sampleLn, sampleLogs, dis
 use Rattle.scattering.specs.Multiple.{msTerm, msAddend}
 use Rattle.scattering.specs.declared.multiple.Dipole.{Dipole}
 
-pub ms-sum : (p : Dipole) (logs zr zv dr dv er ev ek : List Float) → logs ≡ sampleLogs
+pub ms-sum : (p : Dipole) {logs zr zv dr dv er ev ek : List Float} → logs ≡ sampleLogs
     → zr ≡ map (λ (l : Float). neg l ⊘ p .«sigmap_t») logs
     → zv ≡ map (λ (z : Float). neg z ⊕ two ⊗ p .ze) zr
     → dr ≡ map (distance (p .r)) zr
@@ -24,7 +24,7 @@ pub ms-sum : (p : Dipole) (logs zr zv dr dv er ev ek : List Float) → logs ≡ 
     → ek ≡ listOf nSamples (λ (k : ℕ). exp (neg two ⊗ p .«sigmap_t» ⊗ (getD dr k nan ⊕ getD zr k nan)))
     → sumTo (λ (k : ℕ). msTerm p (getD zr k nan) (getD zv k nan) (getD dr k nan) (getD dv k nan) (getD er k nan) (getD ev k nan) (getD ek k nan)) (length zr) ≡ sumTo (msAddend p) nSamples
 unfolding sampleLogs msAddend
-ms-sum p logs zr zv dr dv er ev ek e0 e1 e2 e3 e4 e5 e6 e7 =
+ms-sum p {logs = logs} {zr = zr} {zv = zv} {dr = dr} {dv = dv} {er = er} {ev = ev} {ek = ek} e0 e1 e2 e3 e4 e5 e6 e7 =
     let n = nSamples in
     let zr-is = mapped-listed _ n sampleLn logs zr e0 e1 in
     let zv-is = mapped-listed _ n _ zr zv zr-is e2 in

@@ -15,7 +15,7 @@ use Rattle.scattering.specs.Phase.{phaseHg}
 use Rattle.scattering.specs.Samples.{nSamples, sampleLn, sampleLogs, distance}
 use Rattle.scattering.specs.Single.{ssTerm, ssAddend}
 
-pub ss-sum : (sigmaT rho tCrit g eta r : Float) (logs ti d cosines left turned inward kept : List Float) → logs ≡ sampleLogs
+pub ss-sum : (sigmaT rho tCrit g eta r : Float) {logs ti d cosines left turned inward kept : List Float} → logs ≡ sampleLogs
     → ti ≡ map (λ (l : Float). tCrit ⊖ l ⊘ sigmaT) logs
     → d ≡ map (distance r) ti
     → cosines ≡ listOf (length ti) (λ (k : ℕ). getD ti k nan ⊘ getD d k nan)
@@ -25,7 +25,7 @@ pub ss-sum : (sigmaT rho tCrit g eta r : Float) (logs ti d cosines left turned i
     → kept ≡ map (λ (c : Float). frDielectric c one eta) inward
     → sumTo (λ (k : ℕ). ssTerm rho (getD d k nan) (getD cosines k nan) (getD left k nan) (getD turned k nan) (getD kept k nan)) (length d) ≡ sumTo (ssAddend sigmaT rho tCrit g eta r) nSamples
 unfolding sampleLogs ssAddend
-ss-sum sigmaT rho tCrit g eta r logs ti d cosines left turned inward kept e0 e1 e2 e3 e4 e5 e6 e7 =
+ss-sum sigmaT rho tCrit g eta r {logs = logs} {ti = ti} {d = d} {cosines = cosines} {left = left} {turned = turned} {inward = inward} {kept = kept} e0 e1 e2 e3 e4 e5 e6 e7 =
     let n = nSamples in
     let ti-is = mapped-listed _ n sampleLn logs ti e0 e1 in
     let d-is = mapped-listed (distance r) n _ ti d ti-is e2 in

@@ -1,19 +1,18 @@
 -- `scattering::fresnel::reflected_each` meets its contract. The invariant: the list is filled so far. Assumes nothing.
 use borrow.Author.Needs.{needs}
 use mathlib.Core.Path.{_≡_, sym, _∙_}
-use Prim.Native.Nat.{_-_, _≤_, _<_}
+use Prim.Native.Nat.{_-_}
 use native.Mathlib.Omega.{arith}
-use lib.ListN.{length, length-set, getD}
-use lib.Ieee.{Float, nan}
-use Rattle.elementary.proofs.Filled.{Filled, filled-none, filled-more}
-use Rattle.elementary.proofs.Mapped.{filled-map, getD-mapped, length-mapped}
+use lib.ListN.{length, getD}
+use lib.Ieee.{nan}
+use Rattle.elementary.proofs.Filled.{Fills, fills-none, fills-more}
+use Rattle.elementary.proofs.Mapped.{fills-map, getD-mapped, length-mapped}
 use Rattle.scattering.specs.Fresnel.{swapped, sinThetaI, cosThetaT, frDielectric}
 use Rattle.scattering.proofs.fresnel.reflected_each.Statement.{statement}
 use Rattle.scattering.proofs.fresnel.reflected_each.Tie as tie
 
 abbrev Inv-loop : tie.InvT-loop
-Inv-loop cosines eta-i eta-t sines refracted out₀ n i₀ out i =
-    (i ≤ n) × (length out ≡ length cosines) × (length sines ≡ length cosines) × (length refracted ≡ length cosines) × Filled (λ k. frDielectric (getD cosines k nan) eta-i eta-t) out i
+Inv-loop cosines eta-i eta-t sines refracted out₀ n i₀ out i = (length sines ≡ length cosines) × (length refracted ≡ length cosines) × Fills (λ k. frDielectric (getD cosines k nan) eta-i eta-t) out (length cosines) i
 
 abbrev μ-loop : tie.MeasureT-loop
 μ-loop cosines eta-i eta-t sines refracted out₀ n i₀ out i = n - i
@@ -22,40 +21,31 @@ loop-holds : tie.Need-loop-holds Inv-loop μ-loop
 loop-holds c =
     let start = c .before .before .before .before in
     let from = start .args .cosines .now in
-    (omega arith, start .pre .1 .1, length-mapped (λ (x : Float). sinThetaI (swapped x (start .args .eta-i) (start .args .eta-t))) from _ (start .pre .0), length-mapped (λ (x : Float). cosThetaT (swapped x (start .args .eta-i) (start .args .eta-t))) from _ (start .pre .1 .0), filled-none _ (start .args .out .now))
+    (length-mapped (λ x. sinThetaI (swapped x (start .args .eta-i) (start .args .eta-t))) from _ (start .pre .0), length-mapped (λ x. cosThetaT (swapped x (start .args .eta-i) (start .args .eta-t))) from _ (start .pre .1 .0), fills-none _ (start .pre .1 .1))
 
 reflected-requires : tie.Need-reflected-requires Inv-loop μ-loop
 reflected-requires c κs =
     let met = c .before .before in
-    let at = met .before .before .before in
-    let start = at .before .before .before .before .before in
+    let test = met .before .before in
+    let start = test .before .before .before .before .before .before in
     let from = start .args .cosines .now in
-    let i = at .loop .i in
-    let within : i < length from = omega arith in (
-      rw (met .swapped .ensures) (getD-mapped (λ (x : Float). sinThetaI (swapped x (start .args .eta-i) (start .args .eta-t))) from (start .args .sines .now) i (start .pre .0) within),
-      rw (met .swapped .ensures) (getD-mapped (λ (x : Float). cosThetaT (swapped x (start .args .eta-i) (start .args .eta-t))) from (start .args .refracted .now) i (start .pre .1 .0) within),
+    let i = test .before .loop .i in (
+      rw (met .swapped .ensures) (getD-mapped (λ x. sinThetaI (swapped x (start .args .eta-i) (start .args .eta-t))) from (start .args .sines .now) i (start .pre .0) (test .loop-test .taken)),
+      rw (met .swapped .ensures) (getD-mapped (λ x. cosThetaT (swapped x (start .args .eta-i) (start .args .eta-t))) from (start .args .refracted .now) i (start .pre .1 .0) (test .loop-test .taken)),
     )
 
 loop-again : tie.Need-loop-again Inv-loop μ-loop
 unfolding frDielectric
 loop-again c =
     let met = c .before .before .before in
-    let at = met .before .before .before in
-    let inside : at .loop .i < length (at .loop .out) = omega arith in (
-      omega arith,
-      length-set (at .loop .out) _ _ ∙ at .loop .inv .1,
-      at .loop .inv .2,
-      at .loop .inv .3,
-      filled-more _ (at .loop .out) _ _ inside (rw (c .reflected .ensures, met .swapped .ensures)) (at .loop .inv .4),
-    )
+    let test = met .before .before in
+    let held = test .before .loop .inv in
+    (held .0, held .1, fills-more (test .loop-test .taken) (rw (c .reflected .ensures, met .swapped .ensures)) (held .2))
 
 returns : tie.Need-returns Inv-loop μ-loop
 returns c =
-    let at = c .before in
-    let start = at .before .before .before .before .before in
-    let from = start .args .cosines .now in
-    let all : at .loop .i ≡ length from = omega arith in
-    filled-map _ from (at .loop .out) (at .loop .inv .1) (rw all at (at .loop .inv .4))
+    let start = c .before .before .before .before .before .before in
+    fills-map (λ x. frDielectric x (start .args .eta-i) (start .args .eta-t)) (start .args .cosines .now) (c .loop-test .left) (c .before .loop .inv .2)
 
 pub reflected-each-spec : {M : Type 1} → statement M
 reflected-each-spec =
@@ -77,5 +67,5 @@ reflected-each-spec =
     (λ c. omega arith)
     (λ c. omega arith)
     loop-again
-    (λ c. c .before .loop .inv .1 ∙ sym (c .before .before .before .before .before .before .pre .1 .1))
+    (λ c. c .before .loop .inv .2 .as-long ∙ sym (c .before .before .before .before .before .before .pre .1 .1))
     returns)

@@ -52,14 +52,6 @@ returns c =
     c .sum .ensures
     ∙ ms-sum
     (at-new .new .result)
-    _
-    _
-    _
-    _
-    _
-    _
-    _
-    _
     (start .pre)
     (at-depths .depths .ensures)
     (at-mirrored .mirrored .ensures)

@@ -3,11 +3,11 @@ use mathlib.Core.Path.{_≡_, refl, sym, ap, _∙_}
 use mathlib.Core.List.{map}
 use Prim.Native.Nat.{_-_, _≤_, _<_}
 use native.Mathlib.Omega.{arith}
-use lib.ListN.{length, length-set, getD}
+use lib.ListN.{length, getD}
 use lib.Ieee.{nan, neg}
 use Rattle.elementary.specs.Notation.{_⊕_, _⊗_}
 use Rattle.elementary.specs.Exponential.{exp}
-use Rattle.elementary.proofs.Filled.{Filled, filled-none, filled-more, filled-all}
+use Rattle.elementary.proofs.Filled.{Fills, fills-none, fills-more, fills-all}
 use Rattle.elementary.proofs.Mapped.{map-listOf, length-mapped}
 use Rattle.scattering.specs.Literals.{two}
 use Rattle.scattering.specs.Samples.{nSamples}
@@ -15,34 +15,32 @@ use Rattle.scattering.proofs.multiple.corrections.Statement.{statement}
 use Rattle.scattering.proofs.multiple.corrections.Tie as tie
 
 abbrev Inv-loop : tie.InvT-loop
-Inv-loop sigmap-t zr dr out₀ n factor i₀ out i = (i ≤ n) × (length out ≡ nSamples) × (length dr ≡ length zr) × Filled (λ k. neg two ⊗ sigmap-t ⊗ (getD dr k nan ⊕ getD zr k nan)) out i
+Inv-loop sigmap-t zr dr out₀ n factor i₀ out i = (length dr ≡ length zr) × (length zr ≡ nSamples) × Fills (λ k. neg two ⊗ sigmap-t ⊗ (getD dr k nan ⊕ getD zr k nan)) out nSamples i
 
 abbrev μ-loop : tie.MeasureT-loop
 μ-loop sigmap-t zr dr out₀ n factor i₀ out i = n - i
 
 loop-holds : tie.Need-loop-holds Inv-loop μ-loop
-loop-holds c =
-    let start = c .before .before .before in
-    (omega arith, start .pre .1 .1, start .pre .1 .0 ∙ sym (start .pre .0), filled-none _ (start .args .out .now))
+loop-holds c = let start = c .before .before .before in (start .pre .1 .0 ∙ sym (start .pre .0), start .pre .0, fills-none _ (start .pre .1 .1))
 
 loop-again : tie.Need-loop-again Inv-loop μ-loop
 loop-again c =
     let at = c .before .before .before in
-    let inside : at .loop .i < length (at .loop .out) = omega arith in
-    (omega arith, length-set (at .loop .out) _ _ ∙ at .loop .inv .1, at .loop .inv .2, filled-more _ (at .loop .out) _ _ inside refl (at .loop .inv .3))
+    let within : at .loop .i < nSamples = omega arith in
+    (at .loop .inv .0, at .loop .inv .1, fills-more within refl (at .loop .inv .2))
 
 same-length : tie.Need-same-length Inv-loop μ-loop
 same-length c =
     let called = c .before .before in
     let at = called .before .before .before in
-    length-mapped exp (at .loop .out) _ (called .exponentials .ensures) ∙ at .loop .inv .1 ∙ sym (at .before .before .before .before .pre .1 .1)
+    length-mapped exp (at .loop .out) _ (called .exponentials .ensures) ∙ at .loop .inv .2 .as-long ∙ sym (at .before .before .before .before .pre .1 .1)
 
 returns : tie.Need-returns Inv-loop μ-loop
 returns c =
     let called = c .before .before in
     let at = called .before .before .before in
-    let all : at .loop .i ≡ nSamples = omega arith in
-    called .exponentials .ensures ∙ ap (map exp) (filled-all _ (at .loop .out) nSamples (at .loop .inv .1) (rw all at (at .loop .inv .3))) ∙ map-listOf exp nSamples _
+    let all : nSamples ≤ at .loop .i = omega arith in
+    called .exponentials .ensures ∙ ap (map exp) (fills-all all (at .loop .inv .2)) ∙ map-listOf exp nSamples _
 
 pub corrections-spec : {M : Type 1} → statement M
 corrections-spec =
@@ -60,6 +58,6 @@ corrections-spec =
     (λ c. omega arith)
     (λ c. omega arith)
     loop-again
-    (λ c κs. c .before .before .loop .inv .1)
+    (λ c κs. c .before .before .loop .inv .2 .as-long)
     same-length
     returns)

@@ -1,33 +1,23 @@
 -- `scattering::multiple::depths` meets its contract. The invariant: the list is filled so far. Assumes nothing.
-use mathlib.Core.Path.{_≡_, refl, sym, _∙_}
-use Prim.Native.Nat.{_-_, _≤_, _<_}
+use mathlib.Core.Path.{refl, sym, _∙_}
+use Prim.Native.Nat.{_-_}
 use native.Mathlib.Omega.{arith}
-use lib.ListN.{length, length-set, getD}
+use lib.ListN.{length, getD}
 use lib.Ieee.{nan, neg}
 use Rattle.elementary.specs.Notation.{_⊘_}
-use Rattle.elementary.proofs.Filled.{Filled, filled-none, filled-more}
-use Rattle.elementary.proofs.Mapped.{filled-map}
+use Rattle.elementary.proofs.Filled.{Fills, fills-none, fills-more}
+use Rattle.elementary.proofs.Mapped.{fills-map}
 use Rattle.scattering.proofs.multiple.depths.Statement.{statement}
 use Rattle.scattering.proofs.multiple.depths.Tie as tie
 
 abbrev Inv-loop : tie.InvT-loop
-Inv-loop sigmap-t logs out₀ n i₀ out i = (i ≤ n) × (length out ≡ length logs) × Filled (λ k. neg (getD logs k nan) ⊘ sigmap-t) out i
+Inv-loop sigmap-t logs out₀ n i₀ out i = Fills (λ k. neg (getD logs k nan) ⊘ sigmap-t) out (length logs) i
 
 abbrev μ-loop : tie.MeasureT-loop
 μ-loop sigmap-t logs out₀ n i₀ out i = n - i
 
-loop-again : tie.Need-loop-again Inv-loop μ-loop
-loop-again c =
-    let at = c .before .before in
-    let inside : at .loop .i < length (at .loop .out) = omega arith in
-    (omega arith, length-set (at .loop .out) _ _ ∙ at .loop .inv .1, filled-more _ (at .loop .out) _ _ inside refl (at .loop .inv .2))
-
 returns : tie.Need-returns Inv-loop μ-loop
-returns c =
-    let at = c .before in
-    let from = at .before .args .logs .now in
-    let all : at .loop .i ≡ length from = omega arith in
-    filled-map _ from (at .loop .out) (at .loop .inv .1) (rw all at (at .loop .inv .2))
+returns c = let start = c .before .before in fills-map (λ l. neg l ⊘ start .args .sigmap-t) (start .args .logs .now) (c .loop-test .left) (c .before .loop .inv)
 
 pub depths-spec : {M : Type 1} → statement M
 depths-spec =
@@ -35,13 +25,13 @@ depths-spec =
     (tie.spec
     Inv-loop
     μ-loop
-    (λ c. (omega arith, c .pre, filled-none _ (c .args .out .now)))
+    (λ c. fills-none _ (c .pre))
     (λ c. omega arith)
     (λ c. omega arith)
     (λ c. omega arith)
     (λ c. omega arith)
     (λ c. omega arith)
     (λ c. omega arith)
-    loop-again
-    (λ c. c .before .loop .inv .1 ∙ sym (c .before .before .pre))
+    (λ c. fills-more (c .before .loop-test .taken) refl (c .before .before .loop .inv))
+    (λ c. c .before .loop .inv .as-long ∙ sym (c .before .before .pre))
     returns)

@@ -12,8 +12,7 @@ use Rattle.scattering.proofs.multiple.sum.Statement.{statement}
 use Rattle.scattering.proofs.multiple.sum.Tie as tie
 
 abbrev Inv-loop : tie.InvT-loop
-Inv-loop p zr zv dr dv er ev ek n ed₀ i₀ ed i =
-    (i ≤ n) × (ed ≡ sumTo (λ k. msTerm p (getD zr k nan) (getD zv k nan) (getD dr k nan) (getD dv k nan) (getD er k nan) (getD ev k nan) (getD ek k nan)) i)
+Inv-loop p zr zv dr dv er ev ek n ed₀ i₀ ed i = (i ≤ n) × (ed ≡ sumTo (λ k. msTerm p (getD zr k nan) (getD zv k nan) (getD dr k nan) (getD dv k nan) (getD er k nan) (getD ev k nan) (getD ek k nan)) i)
 
 abbrev μ-loop : tie.MeasureT-loop
 μ-loop p zr zv dr dv er ev ek n ed₀ i₀ ed i = n - i
@@ -24,9 +23,7 @@ loop-holds c = (omega arith, refl)
 
 loop-again : tie.Need-loop-again Inv-loop μ-loop
 unfolding sumTo
-loop-again c =
-    let at = c .before .before .before .before .before .before .before .before .before in
-    (omega arith, rw (add-one, c .term .ensures, ← at .loop .inv .1))
+loop-again c = (omega arith, rw (add-one, c .term .ensures, ← c .before .before .before .before .before .before .before .before .before .loop .inv .1))
 
 returns : tie.Need-returns Inv-loop μ-loop
 returns c =

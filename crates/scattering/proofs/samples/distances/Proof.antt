@@ -1,46 +1,37 @@
 -- `scattering::samples::distances` meets its contract. The invariant: the list is filled so far with what the roots are taken of. Assumes nothing.
 use borrow.Author.Needs.{needs}
-use mathlib.Core.Path.{_≡_, refl, sym, ap, _∙_}
-use mathlib.Core.List.{map}
-use Prim.Native.Nat.{_-_, _≤_, _<_}
+use mathlib.Core.Path.{refl, sym, _∙_}
+use Prim.Native.Nat.{_-_}
 use native.Mathlib.Omega.{arith}
-use lib.ListN.{length, length-set, getD}
-use lib.Ieee.{Float, nan}
+use lib.ListN.{length, getD}
+use lib.Ieee.{nan}
 use Rattle.elementary.specs.Notation.{_⊕_, _⊗_}
 use Rattle.elementary.specs.Root.{sqrt}
-use Rattle.elementary.proofs.Filled.{Filled, filled-none, filled-more}
-use Rattle.elementary.proofs.Mapped.{filled-map, map-map, length-map}
+use Rattle.elementary.proofs.Filled.{Fills, fills-none, fills-more}
+use Rattle.elementary.proofs.Mapped.{fills-then, length-mapped}
 use Rattle.scattering.specs.Samples.{distance}
 use Rattle.scattering.proofs.samples.distances.Statement.{statement}
 use Rattle.scattering.proofs.samples.distances.Tie as tie
 
 abbrev Inv-loop : tie.InvT-loop
-Inv-loop r z out₀ n square i₀ out i = (i ≤ n) × (length out ≡ length z) × Filled (λ k. r ⊗ r ⊕ getD z k nan ⊗ getD z k nan) out i
+Inv-loop r z out₀ n square i₀ out i = Fills (λ k. r ⊗ r ⊕ getD z k nan ⊗ getD z k nan) out (length z) i
 
 abbrev μ-loop : tie.MeasureT-loop
 μ-loop r z out₀ n square i₀ out i = n - i
-
-loop-again : tie.Need-loop-again Inv-loop μ-loop
-loop-again c =
-    let at = c .before .before .before in
-    let inside : at .loop .i < length (at .loop .out) = omega arith in
-    (omega arith, length-set (at .loop .out) _ _ ∙ at .loop .inv .1, filled-more _ (at .loop .out) _ _ inside refl (at .loop .inv .2))
 
 same-length : tie.Need-same-length Inv-loop μ-loop
 same-length c =
     let called = c .before .before in
     let at = called .before .before .before in
-    ap length (called .sqrt-each .ensures) ∙ length-map sqrt (at .loop .out) ∙ at .loop .inv .1 ∙ sym (at .before .before .before .pre)
+    length-mapped sqrt (at .loop .out) _ (called .sqrt-each .ensures) ∙ at .loop .inv .as-long ∙ sym (at .before .before .before .pre)
 
 returns : tie.Need-returns Inv-loop μ-loop
 unfolding distance
 returns c =
     let called = c .before .before in
-    let at = called .before .before .before in
-    let start = at .before .before .before in
-    let from = start .args .z .now in
-    let all : at .loop .i ≡ length from = omega arith in
-    called .sqrt-each .ensures ∙ ap (map sqrt) (filled-map _ from (at .loop .out) (at .loop .inv .1) (rw all at (at .loop .inv .2))) ∙ map-map sqrt (λ (x : Float). start .args .r ⊗ start .args .r ⊕ x ⊗ x) from
+    let over = called .before .before in
+    let start = over .before .before .before .before in
+    fills-then sqrt (λ x. start .args .r ⊗ start .args .r ⊕ x ⊗ x) (start .args .z .now) (over .loop-test .left) (over .before .loop .inv) (called .sqrt-each .ensures)
 
 pub distances-spec : {M : Type 1} → statement M
 distances-spec =
@@ -48,7 +39,7 @@ distances-spec =
     (tie.spec
     Inv-loop
     μ-loop
-    (λ c. (omega arith, c .before .before .pre, filled-none _ (c .before .before .args .out .now)))
+    (λ c. fills-none _ (c .before .before .pre))
     (λ c. omega arith)
     (λ c. omega arith)
     (λ c. omega arith)
@@ -57,7 +48,7 @@ distances-spec =
     (λ c. omega arith)
     (λ c. omega arith)
     (λ c. omega arith)
-    loop-again
+    (λ c. fills-more (c .before .before .loop-test .taken) refl (c .before .before .before .loop .inv))
     (λ c κs. search needs)
     same-length
     returns)

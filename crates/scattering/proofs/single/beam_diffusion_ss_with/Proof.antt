@@ -49,14 +49,6 @@ returns c =
     (given .g)
     (given .eta)
     (given .r)
-    _
-    _
-    _
-    _
-    _
-    _
-    _
-    _
     (start .pre)
     (at-lengths .lengths .ensures)
     (at-distances .distances .ensures)

@@ -1,32 +1,22 @@
 -- `scattering::single::opposites` meets its contract. The invariant: the list is filled so far. Assumes nothing.
-use mathlib.Core.Path.{_≡_, refl, sym, _∙_}
-use Prim.Native.Nat.{_-_, _≤_, _<_}
+use mathlib.Core.Path.{refl, sym, _∙_}
+use Prim.Native.Nat.{_-_}
 use native.Mathlib.Omega.{arith}
-use lib.ListN.{length, length-set, getD}
+use lib.ListN.{length, getD}
 use lib.Ieee.{nan, neg}
-use Rattle.elementary.proofs.Filled.{Filled, filled-none, filled-more}
-use Rattle.elementary.proofs.Mapped.{filled-map}
+use Rattle.elementary.proofs.Filled.{Fills, fills-none, fills-more}
+use Rattle.elementary.proofs.Mapped.{fills-map}
 use Rattle.scattering.proofs.single.opposites.Statement.{statement}
 use Rattle.scattering.proofs.single.opposites.Tie as tie
 
 abbrev Inv-loop : tie.InvT-loop
-Inv-loop xs out₀ n i₀ out i = (i ≤ n) × (length out ≡ length xs) × Filled (λ k. neg (getD xs k nan)) out i
+Inv-loop xs out₀ n i₀ out i = Fills (λ k. neg (getD xs k nan)) out (length xs) i
 
 abbrev μ-loop : tie.MeasureT-loop
 μ-loop xs out₀ n i₀ out i = n - i
 
-loop-again : tie.Need-loop-again Inv-loop μ-loop
-loop-again c =
-    let at = c .before .before in
-    let inside : at .loop .i < length (at .loop .out) = omega arith in
-    (omega arith, length-set (at .loop .out) _ _ ∙ at .loop .inv .1, filled-more _ (at .loop .out) _ _ inside refl (at .loop .inv .2))
-
 returns : tie.Need-returns Inv-loop μ-loop
-returns c =
-    let at = c .before in
-    let from = at .before .args .xs .now in
-    let all : at .loop .i ≡ length from = omega arith in
-    filled-map _ from (at .loop .out) (at .loop .inv .1) (rw all at (at .loop .inv .2))
+returns c = let start = c .before .before in fills-map neg (start .args .xs .now) (c .loop-test .left) (c .before .loop .inv)
 
 pub opposites-spec : {M : Type 1} → statement M
 opposites-spec =
@@ -34,13 +24,13 @@ opposites-spec =
     (tie.spec
     Inv-loop
     μ-loop
-    (λ c. (omega arith, c .pre, filled-none _ (c .args .out .now)))
+    (λ c. fills-none _ (c .pre))
     (λ c. omega arith)
     (λ c. omega arith)
     (λ c. omega arith)
     (λ c. omega arith)
     (λ c. omega arith)
     (λ c. omega arith)
-    loop-again
-    (λ c. c .before .loop .inv .1 ∙ sym (c .before .before .pre))
+    (λ c. fills-more (c .before .loop-test .taken) refl (c .before .before .loop .inv))
+    (λ c. c .before .loop .inv .as-long ∙ sym (c .before .before .pre))
     returns)

@@ -12,8 +12,7 @@ use Rattle.scattering.proofs.single.sum.Statement.{statement}
 use Rattle.scattering.proofs.single.sum.Tie as tie
 
 abbrev Inv-loop : tie.InvT-loop
-Inv-loop rho d cosines attenuations phases fresnels n ess₀ i₀ ess i =
-    (i ≤ n) × (ess ≡ sumTo (λ k. ssTerm rho (getD d k nan) (getD cosines k nan) (getD attenuations k nan) (getD phases k nan) (getD fresnels k nan)) i)
+Inv-loop rho d cosines attenuations phases fresnels n ess₀ i₀ ess i = (i ≤ n) × (ess ≡ sumTo (λ k. ssTerm rho (getD d k nan) (getD cosines k nan) (getD attenuations k nan) (getD phases k nan) (getD fresnels k nan)) i)
 
 abbrev μ-loop : tie.MeasureT-loop
 μ-loop rho d cosines attenuations phases fresnels n ess₀ i₀ ess i = n - i
@@ -24,9 +23,7 @@ loop-holds c = (omega arith, refl)
 
 loop-again : tie.Need-loop-again Inv-loop μ-loop
 unfolding sumTo
-loop-again c =
-    let at = c .before .before .before .before .before .before .before in
-    (omega arith, rw (add-one, c .term .ensures, ← at .loop .inv .1))
+loop-again c = (omega arith, rw (add-one, c .term .ensures, ← c .before .before .before .before .before .before .before .loop .inv .1))
 
 returns : tie.Need-returns Inv-loop μ-loop
 returns c =
