@@ -6,6 +6,7 @@
 
 float elementary_abs(float), elementary_max0(float), elementary_narrow(double), elementary_sqrt(float), elementary_exp(float), elementary_ln(float);
 double elementary_widen(float);
+void elementary_sqrt_each(float *, size_t), elementary_exp_each(float *, size_t, double *, size_t);
 
 #define OUTSIDE __attribute__((noinline)) static
 OUTSIDE float call_alone(float x) { __asm__ volatile("" : "+x"(x)); return x; }
@@ -36,6 +37,23 @@ static double least[32];
     if (run == RUNS - 1) printf("%-34s %6.2f ns\n", name, least[row]); \
 } while (0)
 
+/* A function of a list, on lists of a hundred. */
+#define TIME_LIST(row, name, call, args) do { \
+    double t = now(); \
+    for (int r = 0; r < ROUNDS; r++) for (int i = 0; i + LENGTH <= N; i += LENGTH) { \
+        for (int k = 0; k < LENGTH; k++) list[k] = args[i + k]; \
+        call; \
+        __asm__ volatile("" : : "r"(list) : "memory"); \
+    } \
+    t = (now() - t) / ROUNDS / (N / LENGTH * LENGTH) * 1e9; \
+    if (run == 0 || t < least[row]) least[row] = t; \
+    if (run == RUNS - 1) printf("%-34s %6.2f ns\n", name, least[row]); \
+} while (0)
+
+enum { LENGTH = 100 };
+static float list[LENGTH];
+static double room[LENGTH];
+
 int main(void) {
     for (int i = 0; i < N; i++) {
         any[i] = float_of((uint32_t)next() & 0x7fffffff);
@@ -61,6 +79,8 @@ int main(void) {
         TIME(13, "abs", elementary_abs, any);
         TIME(14, "  the hardware's", hardware_abs, any);
         TIME(15, "max0", elementary_max0, any);
+        TIME_LIST(16, "sqrt_each, for each of a hundred", elementary_sqrt_each(list, LENGTH), any);
+        TIME_LIST(17, "exp_each, for each of a hundred", elementary_exp_each(list, LENGTH, room, LENGTH), power);
     }
     return 0;
 }

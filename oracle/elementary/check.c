@@ -6,9 +6,11 @@
 
 float elementary_abs(float), elementary_max0(float), elementary_narrow(double), elementary_sqrt(float), elementary_exp(float), elementary_ln(float);
 double elementary_widen(float);
+void elementary_sqrt_each(float *, size_t), elementary_exp_each(float *, size_t, double *, size_t);
 
-enum { ABS, MAX0, WIDEN, SQRT, EXP, LN, BACK, HALF, NEAR, ANY, KINDS };
-static const char *const names[KINDS] = {"abs", "max0", "widen", "sqrt", "exp", "ln", "narrow(widen(x))", "narrow, at and beside halfway points", "narrow, exponents near those of f32", "narrow, any pattern"};
+enum { BLOCK = 128 };
+enum { ABS, MAX0, WIDEN, SQRT, EXP, LN, SQRTS, EXPS, BACK, HALF, NEAR, ANY, KINDS };
+static const char *const names[KINDS] = {"abs", "max0", "widen", "sqrt", "exp", "ln", "sqrt_each", "exp_each", "narrow(widen(x))", "narrow, at and beside halfway points", "narrow, exponents near those of f32", "narrow, any pattern"};
 
 struct part { uint64_t from, to, random; uint64_t count[KINDS], bad[KINDS]; };
 
@@ -23,12 +25,27 @@ static void narrow(struct part *p, int kind, uint64_t u) {
     same(p, kind, u, written(elementary_narrow(x)), written(ref_narrow(x)));
 }
 
+/* The functions of a list, on the next patterns. */
+static void lists(struct part *p, uint64_t u) {
+    float roots[BLOCK], powers[BLOCK];
+    double room[BLOCK];
+    for (uint32_t i = 0; i < BLOCK; i++) roots[i] = powers[i] = float_of((uint32_t)u + i);
+    elementary_sqrt_each(roots, BLOCK);
+    elementary_exp_each(powers, BLOCK, room, BLOCK);
+    for (uint32_t i = 0; i < BLOCK; i++) {
+        float x = float_of((uint32_t)u + i);
+        same(p, SQRTS, u + i, written(roots[i]), written(ref_sqrt(x)));
+        same(p, EXPS, u + i, written(powers[i]), written(ref_exp(x)));
+    }
+}
+
 static uint64_t next(struct part *p) { p->random ^= p->random << 13; p->random ^= p->random >> 7; p->random ^= p->random << 17; return p->random; }
 
 static void *run(void *arg) {
     struct part *p = arg;
     for (uint64_t u = p->from; u < p->to; u++) {
         float x = float_of((uint32_t)u);
+        if (u % BLOCK == 0) lists(p, u);
         same(p, ABS, u, written(elementary_abs(x)), written(ref_abs(x)));
         same(p, MAX0, u, written(elementary_max0(x)), written(ref_max0(x)));
         same(p, WIDEN, u, written_double(elementary_widen(x)), written_double(ref_widen(x)));

@@ -1,9 +1,13 @@
 // The elementary functions for C: oracle/elementary links them, to compare them with the hardware
 // and with document 01's formulas on every `f32`, and to time them.
 ghost use mathlib.Core.Path.{_≡_};
+ghost use mathlib.Core.Bool.{cond};
+ghost use mathlib.Core.List.{map};
+ghost use lib.Dec.{eqb};
+ghost use lib.ListN.{length};
 ghost use Rattle.elementary.specs.Sign as Sign;
 ghost use Rattle.elementary.specs.Convert as Convert;
-ghost use Rattle.elementary.specs.Root.{Root};
+ghost use Rattle.elementary.specs.Root.{Root, sqrt};
 ghost use Rattle.elementary.specs.Exponential as Exponential;
 ghost use Rattle.elementary.specs.Logarithm as Logarithm;
 
@@ -54,4 +58,21 @@ pub extern "C" fn elementary_ln(x: f32) -> f32
     ensures { λ r. ⌜ r ≡ Logarithm.ln x ⌝ }
 {
     elementary::ln(x)
+}
+
+#[no_mangle]
+pub extern "C" fn elementary_sqrt_each(xs: &mut [f32])
+    ensures { λ r. ⌜ now (xs .exit) ≡ map sqrt (now (xs .entry)) ⌝ }
+{
+    elementary::sqrt_each(xs)
+}
+
+// Nothing is done where the room has another length.
+#[no_mangle]
+pub extern "C" fn elementary_exp_each(xs: &mut [f32], room: &mut [f64])
+    ensures { λ r. ⌜ now (xs .exit) ≡ cond (eqb (length (now (room .entry))) (length (now (xs .entry)))) (map Exponential.exp (now (xs .entry))) (now (xs .entry)) ⌝ }
+{
+    if room.len() == xs.len() {
+        elementary::exp_each(xs, room)
+    }
 }
