@@ -1,26 +1,20 @@
 //! Times the proved calls beside the functions of rs_pbrt: ns per call, the least of many turns, in which the two take turns. The
 //! proved calls check their lists each time, and the functions of rs_pbrt check nothing. Each answer is the sum of its floats.
+#[path = "../shared/stand_ins.rs"]
 mod stand_ins;
+#[path = "../shared/table.rs"]
+mod table;
+#[path = "../shared/timing.rs"]
+mod timing;
 
 use stand_ins::StandIns;
 use std::hint::black_box;
-use std::time::Instant;
+use table::{albedos, radii};
 
+/// The fastest there are.
 impl StandIns for f32 {
     fn stand_in_root(self) -> f32 {
         self.sqrt()
-    }
-
-    fn stand_in_max(self, v: f32) -> f32 {
-        if v > 0.0 {
-            v
-        } else {
-            0.0
-        }
-    }
-
-    fn stand_in_abs(self) -> f32 {
-        self.abs()
     }
 }
 
@@ -67,8 +61,7 @@ fn rust_integrate(x: &[f32], values: &[f32], cdf: &mut [f32]) -> f32 {
 #[inline(never)]
 fn rust_sample_2d(nodes1: &[f32], nodes2: &[f32], values: &[f32], cdf: &[f32], alpha: f32, u: f32) -> f32 {
     let (mut value, mut density) = (0.0, 0.0);
-    let position =
-        reference::sample_catmull_rom_2d(nodes1, nodes2, values, cdf, alpha, u, Some(&mut value), Some(&mut density));
+    let position = reference::sample_catmull_rom_2d(nodes1, nodes2, values, cdf, alpha, u, Some(&mut value), Some(&mut density));
     position + value + density
 }
 
@@ -106,35 +99,10 @@ fn beside(name: &str, mut rust: impl FnMut(usize) -> f32, mut proved: impl FnMut
     for i in 0..CALLS {
         assert!(rust(i).to_bits() == proved(i).to_bits(), "{}: answers differ", name);
     }
-    let mut least = [f64::MAX; 2];
-    for _ in 0..TURNS {
-        for (who, least) in least.iter_mut().enumerate() {
-            let start = Instant::now();
-            for i in 0..CALLS {
-                if who == 0 {
-                    black_box(rust(i));
-                } else {
-                    black_box(proved(i));
-                }
-            }
-            *least = least.min(start.elapsed().as_nanos() as f64 / CALLS as f64);
-        }
-    }
-    println!("{:32} {:8.1} {:8.1} {:8.2}", name, least[0], least[1], least[0] / least[1]);
-}
-
-/// As the albedos of a table: closer towards 1.
-fn albedos(n: usize) -> Vec<f32> {
-    (0..n).map(|i| if i + 1 == n { 1.0 } else { 1.0 - 0.94f32.powi(i as i32) }).collect()
-}
-
-/// As its radii.
-fn radii(m: usize) -> Vec<f32> {
-    let mut list = vec![0.0, 0.0025];
-    while list.len() < m {
-        list.push(list[list.len() - 1] * 1.2);
-    }
-    list
+    let mut rust_pass = || (0..CALLS).for_each(|i| _ = black_box(rust(i)));
+    let mut proved_pass = || (0..CALLS).for_each(|i| _ = black_box(proved(i)));
+    let [rust, proved] = timing::least(TURNS, [&mut rust_pass, &mut proved_pass]).map(|time| time / CALLS as f64);
+    println!("{:32} {:8.1} {:8.1} {:8.2}", name, rust, proved, rust / proved);
 }
 
 /// Numbers from 0 up to 1, evenly spread.
@@ -152,17 +120,14 @@ fn main() {
     let nodes1 = albedos(100);
     let nodes2 = radii(64);
     let (n, m) = (nodes1.len(), nodes2.len());
-    let values: Vec<f32> =
-        (0..n * m).map(|k| (1 + k / m) as f32 * nodes2[k % m] * (-3.0 * nodes2[k % m]).exp()).collect();
+    let values: Vec<f32> = (0..n * m).map(|k| (1 + k / m) as f32 * nodes2[k % m] * (-3.0 * nodes2[k % m]).exp()).collect();
     let mut cdf = vec![0.0; n * m];
     for row in 0..n {
         rust_integrate(&nodes2, &values[row * m..(row + 1) * m], &mut cdf[row * m..(row + 1) * m]);
     }
     let row = |i: usize| &values[i % n * m..(i % n + 1) * m];
     let (mut one, mut other) = (vec![0.0; m], vec![0.0; m]);
-    beside("integrate, 64 nodes", |i| rust_integrate(&nodes2, row(i), &mut one), |i| {
-        proved_integrate(&nodes2, row(i), &mut other)
-    });
+    beside("integrate, 64 nodes", |i| rust_integrate(&nodes2, row(i), &mut one), |i| proved_integrate(&nodes2, row(i), &mut other));
     beside(
         "sample_2d, 100 by 64",
         |i| rust_sample_2d(&nodes1, &nodes2, &values, &cdf, xs[i], us[i]),

@@ -21,27 +21,7 @@ thread_local! {
 /// What is thrown when a draw wants a round more than it is allowed.
 struct UsedUp;
 
-/// Document 01's stand-ins for methods of a float.
 impl StandIns for f32 {
-    /// Q: the hardware's root is the nearest one.
-    fn stand_in_root(self) -> f32 {
-        if self.is_nan() || self < 0.0 {
-            f32::NAN
-        } else {
-            self.sqrt()
-        }
-    }
-
-    /// The maximum of 0 and v.
-    fn stand_in_max(self, v: f32) -> f32 {
-        assert!(self.to_bits() == 0);
-        if v > 0.0 {
-            v
-        } else {
-            0.0
-        }
-    }
-
     /// The absolute value. The draw takes it once in each round, so the rounds are counted here.
     fn stand_in_abs(self) -> f32 {
         let rounds = ROUNDS.get() + 1;

@@ -1,6 +1,8 @@
 //! The stored cases and the random ones.
 use crate::calls::{self, Integral, Sample, MOST_RADII, MOST_ROUNDS, MOST_ROWS};
-use crate::lists::{down, nans, nodes, spoilt, up, values, Rng, NODE_KINDS, SPECIAL, SPOILT_KINDS, VALUE_KINDS};
+use crate::lists::{nodes, spoilt, values, NODE_KINDS, SPOILT_KINDS, VALUE_KINDS};
+use crate::numbers::{about, down, nans, up, Rng, SPECIAL};
+use crate::writing;
 
 #[derive(Clone)]
 pub enum Case {
@@ -9,8 +11,7 @@ pub enum Case {
     Sample { nodes1: Vec<f32>, nodes2: Vec<f32>, values: Vec<f32>, cdf: Vec<f32>, alpha: f32, u: f32, allowance: u32 },
 }
 
-/// Where cases go, each with the name of its class.
-type Put<'a> = &'a mut dyn FnMut(&'static str, Case);
+type Put<'a> = writing::Put<'a, Case>;
 
 /// The arguments of a draw.
 #[derive(Clone)]
@@ -417,12 +418,7 @@ fn draws_by_rounds(rng: &mut Rng, put: Put) {
 /// The rounds end where a difference is below 1e-6: here it is that number, or beside it.
 fn draws_at_the_tolerances(put: Put) {
     let class = "draw, tolerances";
-    let mut near = vec![1e-6f32];
-    for _ in 0..2 {
-        near.insert(0, down(near[0]));
-        near.push(up(near[near.len() - 1]));
-    }
-    for tolerance in near {
+    for tolerance in about(1e-6, 2) {
         // the integral is 0, and the target the tolerance
         let mut draw = flat(0.0, MOST_ROUNDS);
         draw.cdf = vec![0.0, 1.0, 1.0, 0.0, 0.0, 0.0];

@@ -1,9 +1,9 @@
 -- `elementary::exponential::series_each` meets its contract. The invariant: the room holds the series of the elements so far. Assumes nothing.
 use borrow.Author.Needs.{needs}
-use mathlib.Core.Path.{_≡_, sym, _∙_}
-use Prim.Native.Nat.{_-_, _≤_, _<_}
+use mathlib.Core.Path.{sym, _∙_}
+use Prim.Native.Nat.{_-_}
 use native.Mathlib.Omega.{arith}
-use lib.ListN.{length, length-set, getD}
+use lib.ListN.{length, getD}
 use lib.Ieee.{nan}
 use Rattle.elementary.specs.Exponential.{series}
 use Rattle.elementary.proofs.Filled.{Fills, fills-none, fills-more}

@@ -1,0 +1,62 @@
+//! Cuts the scattering functions out of the sources of rs_pbrt, and writes them to one file. Square roots, exponentials, logarithms
+//! and the maxima with 0 go to stand-ins. Of the material only its index of refraction is kept, and of a vector its fields.
+//!
+//! usage: cut SOURCES OUTPUT
+#[path = "../shared/cutting.rs"]
+mod cutting;
+
+use cutting::{arguments, float_type, function, item, line, method, route, source, write};
+
+const HEAD: &str = "use super::StandIns;
+use std::ops::{Add, Index, Mul};
+";
+
+/// The text with as many calls of each method sent to its stand-in.
+fn routed(text: String, roots: usize, exps: usize, lns: usize, maxima: usize) -> String {
+    let text = route(&text, roots, ")", ".sqrt()", ".stand_in_root()");
+    let text = route(&text, exps, ")", ".exp()", ".stand_in_exp()");
+    let text = route(&text, lns, ")", ".ln()", ".stand_in_ln()");
+    route(&text, maxima, "(0.0 as Float)", ".max(", ".stand_in_max(")
+}
+
+/// Methods, put into an implementation again.
+fn methods(text: &str, of: &str, names: &[&str]) -> String {
+    let all: Vec<String> = names.iter().map(|name| method(text, of, name)).collect();
+    format!("impl {} {{\n{}}}\n", of, all.concat())
+}
+
+fn main() {
+    let [sources, output] = arguments();
+    let pbrt = source(&sources, "pbrt");
+    let spectrum = source(&sources, "spectrum");
+    let medium = source(&sources, "medium");
+    let reflection = source(&sources, "reflection");
+    let bssrdf = source(&sources, "bssrdf");
+    let items = [
+        line(&bssrdf, "use std::f32::consts::PI;"),
+        float_type(&pbrt),
+        line(&pbrt, "pub type Spectrum "),
+        line(&pbrt, "pub const INV_4_PI:"),
+        function(&pbrt, "clamp_t"),
+        "#[derive(Clone, Copy)]".to_string(),
+        item(&spectrum, "pub enum RGBEnum"),
+        "#[derive(Clone, Copy, Default)]".to_string(),
+        item(&spectrum, "pub struct RGBSpectrum"),
+        methods(&spectrum, "RGBSpectrum", &["new", "rgb", "clamp", "has_nans"]),
+        item(&spectrum, "impl Add for RGBSpectrum"),
+        item(&spectrum, "impl Mul for RGBSpectrum"),
+        item(&spectrum, "impl Index<RGBEnum> for RGBSpectrum"),
+        route(&function(&medium, "phase_hg"), 1, "denom", ".sqrt()", ".stand_in_root()"),
+        "pub struct Vector3f {\n    pub x: Float,\n    pub y: Float,\n    pub z: Float,\n}\n".to_string(),
+        function(&reflection, "cos_theta"),
+        routed(function(&reflection, "fr_dielectric"), 2, 0, 0, 2),
+        function(&bssrdf, "fresnel_moment1"),
+        function(&bssrdf, "fresnel_moment2"),
+        routed(function(&bssrdf, "beam_diffusion_ms"), 3, 5, 1, 0),
+        routed(function(&bssrdf, "beam_diffusion_ss"), 2, 1, 1, 0),
+        "pub struct TabulatedBssrdf {\n    pub eta: Float,\n}\n".to_string(),
+        methods(&bssrdf, "TabulatedBssrdf", &["sw"]),
+    ];
+    let known = ["stand_in_root", "stand_in_exp", "stand_in_ln", "stand_in_max", "abs", "is_nan", "has_nans"];
+    write(&output, HEAD, &items, &known);
+}

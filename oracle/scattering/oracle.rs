@@ -1,0 +1,91 @@
+//! Writes cases for crates/scattering_test and the answers that the Rust gives, those of `sw` under document 01's checks.
+//!
+//! usage: oracle vectors STDIN_FILE STDOUT_FILE               the stored cases
+//!        oracle cases SEED COUNT STDIN_FILE STDOUT_FILE      random ones
+//!
+//! A case is a line: the name of a function, and words of a space and 8 hexadecimal digits each.
+//!   clamp_t val low high
+//!   fr_dielectric cos_theta_i eta_i eta_t
+//!   phase_hg cos_theta g
+//!   fresnel_moment1 eta
+//!   fresnel_moment2 eta
+//!   beam_diffusion_ss sigma_s sigma_a g eta r
+//!   beam_diffusion_ms sigma_s sigma_a g eta r
+//!   sw eta cosine
+//!   add r g b r g b
+//!   mul r g b r g b
+//!   clamp r g b low high
+//!   has_nans r g b
+//!   channel number r g b
+//! An answer is `r` and a refusal's number, or `v` and the values: one float, the three of a spectrum, or 1 or 0 of `has_nans`.
+//! In answers every NaN is 7fc00000.
+mod calls;
+mod cases;
+#[path = "../shared/numbers.rs"]
+mod numbers;
+#[path = "../shared/stand_ins.rs"]
+mod stand_ins;
+#[path = "../shared/table.rs"]
+mod table;
+#[path = "../shared/writing.rs"]
+mod writing;
+
+use calls::{Answer, Case};
+use std::fmt::{Display, Formatter};
+use writing::Line;
+
+/// What a case got, for the summary: a spectrum counts as a NaN if a channel is one, else as infinite if one is, and as zero if all
+/// are.
+#[derive(Clone, Copy, PartialEq, Eq, PartialOrd, Ord)]
+enum Got {
+    Value,
+    Zero,
+    Infinity,
+    Nan,
+    Yes,
+    No,
+    Refused(u32),
+}
+
+impl Display for Got {
+    fn fmt(&self, f: &mut Formatter) -> std::fmt::Result {
+        match self {
+            Got::Value => write!(f, "value"),
+            Got::Zero => write!(f, "zero"),
+            Got::Infinity => write!(f, "infinity"),
+            Got::Nan => write!(f, "NaN"),
+            Got::Yes => write!(f, "yes"),
+            Got::No => write!(f, "no"),
+            Got::Refused(k) => write!(f, "r{}", k),
+        }
+    }
+}
+
+fn got(floats: &[f32]) -> Got {
+    if floats.iter().any(|x| x.is_nan()) {
+        Got::Nan
+    } else if floats.iter().any(|x| x.is_infinite()) {
+        Got::Infinity
+    } else if floats.iter().all(|x| *x == 0.0) {
+        Got::Zero
+    } else {
+        Got::Value
+    }
+}
+
+fn line(case: &Case) -> Line {
+    case.words.iter().fold(Line::of(case.name), |line, word| line.word(*word))
+}
+
+fn answer(case: &Case) -> (Line, Got) {
+    match calls::answer(case) {
+        Answer::Floats(floats) => (Line::of("v").answers(&floats), got(&floats)),
+        Answer::Truth(true) => (Line::of("v").word(1), Got::Yes),
+        Answer::Truth(false) => (Line::of("v").word(0), Got::No),
+        Answer::Refused(k) => (Line::of("r").word(k), Got::Refused(k)),
+    }
+}
+
+fn main() {
+    writing::run(cases::stored, cases::random, line, answer);
+}

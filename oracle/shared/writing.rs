@@ -1,0 +1,97 @@
+//! Writes cases and answers, a line each: a word, and numbers as a space and 8 hexadecimal digits.
+#![allow(dead_code)]
+use std::collections::BTreeMap;
+use std::fmt::Display;
+use std::io::{BufWriter, Write};
+
+pub struct Line(String);
+
+impl Line {
+    pub fn of(word: &str) -> Line {
+        Line(word.to_string())
+    }
+
+    pub fn word(mut self, n: u32) -> Line {
+        self.0.push_str(&format!(" {:08x}", n));
+        self
+    }
+
+    pub fn length(self, list: &[f32]) -> Line {
+        self.word(list.len() as u32)
+    }
+
+    pub fn floats(self, list: &[f32]) -> Line {
+        list.iter().fold(self, |line, x| line.word(x.to_bits()))
+    }
+
+    /// Every NaN is 7fc00000.
+    pub fn answers(self, list: &[f32]) -> Line {
+        list.iter().fold(self, |line, x| line.word(if x.is_nan() { 0x7fc00000 } else { x.to_bits() }))
+    }
+}
+
+/// Where cases go, each with the name of its class.
+pub type Put<'a, Case> = &'a mut dyn FnMut(&'static str, Case);
+
+fn fail(message: &str) -> ! {
+    eprintln!("oracle: {}", message);
+    std::process::exit(1)
+}
+
+fn number(text: &str) -> u64 {
+    text.parse().unwrap_or_else(|_| fail(&format!("not a number: {}", text)))
+}
+
+fn file(path: &str) -> BufWriter<std::fs::File> {
+    BufWriter::new(std::fs::File::create(path).unwrap_or_else(|error| fail(&format!("{}: {}", path, error))))
+}
+
+/// How many cases of each class got what.
+type Tally<Got> = BTreeMap<&'static str, BTreeMap<Got, usize>>;
+
+fn print_row<Got: Display>(class: &str, answers: &BTreeMap<Got, usize>) {
+    let counts: Vec<String> = answers.iter().map(|(got, count)| format!("{} {}", got, count)).collect();
+    eprintln!("{:28} {:6}: {}", class, answers.values().sum::<usize>(), counts.join(" "));
+}
+
+fn print_tally<Got: Copy + Ord + Display>(tally: &Tally<Got>) {
+    let mut all: BTreeMap<Got, usize> = BTreeMap::new();
+    for (class, answers) in tally {
+        print_row(class, answers);
+        for (got, count) in answers {
+            *all.entry(*got).or_insert(0) += count;
+        }
+    }
+    print_row("all", &all);
+}
+
+/// The program: `vectors STDIN_FILE STDOUT_FILE` writes the stored cases and their answers, and `cases SEED COUNT STDIN_FILE
+/// STDOUT_FILE` random ones. It says how many cases of each class got what.
+pub fn run<Case, Got: Copy + Ord + Display>(
+    stored: impl FnOnce(Put<Case>),
+    random: impl FnOnce(u64, u64, Put<Case>),
+    line: impl Fn(&Case) -> Line,
+    mut answer: impl FnMut(&Case) -> (Line, Got),
+) {
+    let arguments: Vec<String> = std::env::args().skip(1).collect();
+    let words: Vec<&str> = arguments.iter().map(String::as_str).collect();
+    let (paths, kind): ([&str; 2], Option<[u64; 2]>) = match words[..] {
+        ["vectors", stdin, stdout] => ([stdin, stdout], None),
+        ["cases", seed, count, stdin, stdout] => ([stdin, stdout], Some([number(seed), number(count)])),
+        _ => fail("usage: oracle vectors STDIN_FILE STDOUT_FILE | cases SEED COUNT STDIN_FILE STDOUT_FILE"),
+    };
+    let (mut input, mut output) = (file(paths[0]), file(paths[1]));
+    let mut tally: Tally<Got> = BTreeMap::new();
+    let mut put = |class: &'static str, case: Case| {
+        let (answer, got) = answer(&case);
+        *tally.entry(class).or_default().entry(got).or_insert(0) += 1;
+        let written = writeln!(input, "{}", line(&case).0).and(writeln!(output, "{}", answer.0));
+        written.unwrap_or_else(|error| fail(&error.to_string()));
+    };
+    match kind {
+        None => stored(&mut put),
+        Some([seed, count]) => random(seed, count, &mut put),
+    }
+    input.flush().and(output.flush()).unwrap_or_else(|error| fail(&error.to_string()));
+    print_tally(&tally);
+}
