@@ -8,7 +8,7 @@ ghost use Rattle.scattering.specs.Samples as Samples;
 // The number of samples of a sum.
 pub const N_SAMPLES: usize = 100;
 // The same as a float.
-pub const SAMPLES: f32 = 100.0;
+pub const SAMPLES: f32 = N_SAMPLES as f32;
 
 // The logarithm at the sample i. A `u16` is a float with no rounding.
 fn sample_ln(i: u16) -> f32
@@ -23,7 +23,7 @@ pub fn sample_logs(logs: &mut [f32])
     requires { ⌜ length (now logs) ≡ Samples.nSamples ⌝ }
     ensures { λ r. ⌜ now (logs .exit) ≡ Samples.sampleLogs ⌝ }
 {
-    for i in 0u16..100u16 {
+    for i in 0..N_SAMPLES as u16 {
         logs[i as usize] = sample_ln(i);
     }
 }
