@@ -70,7 +70,7 @@ pub extern "C" fn elementary_sqrt_each(xs: &mut [f32])
 // Nothing is done where the room has another length.
 #[no_mangle]
 pub extern "C" fn elementary_exp_each(xs: &mut [f32], room: &mut [f64])
-    ensures { λ r. ⌜ now (xs .exit) ≡ cond (eqb (length (now (room .entry))) (length (now (xs .entry)))) (map Exponential.exp (now (xs .entry))) (now (xs .entry)) ⌝ }
+    ensures { λ r. ⌜ (now (xs .exit) ≡ cond (eqb (length (now (room .entry))) (length (now (xs .entry)))) (map Exponential.exp (now (xs .entry))) (now (xs .entry))) × (now (room .exit) ≡ cond (eqb (length (now (room .entry))) (length (now (xs .entry)))) (map Exponential.series (now (xs .entry))) (now (room .entry))) ⌝ }
 {
     if room.len() == xs.len() {
         elementary::exp_each(xs, room)

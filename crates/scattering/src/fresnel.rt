@@ -79,6 +79,7 @@ pub fn fr_dielectric(cos_theta_i: f32, eta_i: f32, eta_t: f32) -> f32
 
 // ---- at each of a list of cosines
 
+// The sines of the angles.
 fn sines(cosines: &[f32], eta_i: f32, eta_t: f32, out: &mut [f32])
     requires { ⌜ length (now out) ≡ length (now cosines) ⌝ }
     ensures { λ r. ⌜ now (out .exit) ≡ map (λ (c : Float). Fresnel.sinThetaI (Fresnel.swapped c «eta_i» «eta_t»)) (now (cosines .entry)) ⌝ }
@@ -91,6 +92,7 @@ fn sines(cosines: &[f32], eta_i: f32, eta_t: f32, out: &mut [f32])
     elementary::sqrt_each(out)
 }
 
+// The cosines on the other side.
 fn refracted(cosines: &[f32], eta_i: f32, eta_t: f32, sines: &[f32], out: &mut [f32])
     requires { ⌜ now sines ≡ map (λ (c : Float). Fresnel.sinThetaI (Fresnel.swapped c «eta_i» «eta_t»)) (now cosines) ⌝ ∗ ⌜ length (now out) ≡ length (now cosines) ⌝ }
     ensures { λ r. ⌜ now (out .exit) ≡ map (λ (c : Float). Fresnel.cosThetaT (Fresnel.swapped c «eta_i» «eta_t»)) (now (cosines .entry)) ⌝ }
@@ -103,7 +105,8 @@ fn refracted(cosines: &[f32], eta_i: f32, eta_t: f32, sines: &[f32], out: &mut [
     elementary::sqrt_each(out)
 }
 
-// By both: a branch less than `fr_dielectric`, so that the compiler works at several at once.
+// What is reflected, by the sine and the cosine on the other side. Both cases are worked out and the
+// test picks one, so that the compiler works at several at once.
 fn reflected(b: Boundary, sin_theta_i: f32, cos_theta_t: f32) -> f32
     requires { ⌜ «sin_theta_i» ≡ Fresnel.sinThetaI b ⌝ ∗ ⌜ «cos_theta_t» ≡ Fresnel.cosThetaT b ⌝ }
     ensures { λ r. ⌜ r ≡ Fresnel.reflected b ⌝ }
@@ -113,6 +116,7 @@ fn reflected(b: Boundary, sin_theta_i: f32, cos_theta_t: f32) -> f32
     if sine >= 1.0 { 1.0 } else { part }
 }
 
+// What is reflected, at each.
 fn reflected_each(
     cosines: &[f32],
     eta_i: f32,

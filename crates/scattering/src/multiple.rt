@@ -119,6 +119,7 @@ fn corrections(sigmap_t: f32, zr: &[f32], dr: &[f32], out: &mut [f32])
     exponentials(out)
 }
 
+// The sum over the samples, from the first on.
 fn sum(
     p: Dipole,
     zr: &[f32],

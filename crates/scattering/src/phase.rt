@@ -31,7 +31,7 @@ fn roots(cosines: &[f32], g: f32, out: &mut [f32])
     elementary::sqrt_each(out)
 }
 
-// By the roots.
+// The function at each cosine, by the roots.
 fn phases_of(cosines: &[f32], g: f32, roots: &[f32], out: &mut [f32])
     requires { ⌜ now roots ≡ map (λ (c : Float). sqrt (Phase.denom c g)) (now cosines) ⌝ ∗ ⌜ length (now out) ≡ length (now cosines) ⌝ }
     ensures { λ r. ⌜ now (out .exit) ≡ map (λ (c : Float). Phase.phaseHg c g) (now (cosines .entry)) ⌝ }

@@ -41,6 +41,7 @@ fn cosines(ti: &[f32], d: &[f32], out: &mut [f32])
     }
 }
 
+// Each with the other sign.
 fn opposites(xs: &[f32], out: &mut [f32])
     requires { ⌜ length (now out) ≡ length (now xs) ⌝ }
     ensures { λ r. ⌜ now (out .exit) ≡ map neg (now (xs .entry)) ⌝ }
@@ -64,12 +65,14 @@ fn attenuations(sigma_t: f32, t_crit: f32, d: &[f32], out: &mut [f32])
     exponentials(out)
 }
 
+// What a sample adds.
 fn term(rho: f32, d: f32, cos_theta_o: f32, attenuation: f32, phase: f32, fresnel: f32) -> f32
     ensures { λ r. ⌜ r ≡ Single.ssTerm rho d «cos_theta_o» attenuation phase fresnel ⌝ }
 {
     rho * attenuation / (d * d) * phase * (1.0 - fresnel) * elementary::abs(cos_theta_o)
 }
 
+// The sum over the samples, from the first on.
 fn sum(
     rho: f32,
     d: &[f32],
