@@ -5,7 +5,6 @@ use mathlib.Core.List.{List, [], _∷_}
 use Prim.Native.Nat.{ℕ, zero, suc, _≤_, _<_}
 use native.Mathlib.Nat.{le-refl}
 use native.Mathlib.Omega.{arith}
-use lib.Ieee.{Float}
 use Rattle.answers.specs.Checks.{unlessPassed, firstOf}
 use Rattle.answers.specs.Answer.{Answer, refusal, answered, written}
 
@@ -53,7 +52,7 @@ unfolding answered
 not-refused zero a h = le-refl 0
 not-refused (suc k) a h = absurd (omega arith)
 
-pub keeps : (k : ℕ) (new old : List Float) → 0 < k → written k new old ≡ old
+pub keeps : {A : Type 0} (k : ℕ) (new old : A) → 0 < k → written k new old ≡ old
 unfolding written
 keeps zero new old h = absurd (omega arith)
 keeps (suc k) new old h = refl
@@ -63,7 +62,7 @@ unfolding answered
 answers zero a h = refl
 answers (suc k) a h = absurd (omega arith)
 
-pub writes : (k : ℕ) (new old : List Float) → k ≤ 0 → written k new old ≡ new
+pub writes : {A : Type 0} (k : ℕ) (new old : A) → k ≤ 0 → written k new old ≡ new
 unfolding written
 writes zero new old h = refl
 writes (suc k) new old h = absurd (omega arith)

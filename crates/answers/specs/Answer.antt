@@ -21,6 +21,6 @@ unfoldable pub answered : ℕ → Answer → Answer
 answered zero a = a
 answered (suc k) a = refusal (suc k)
 
-unfoldable pub written : ℕ → List Float → List Float → List Float
+unfoldable pub written : {A : Type 0} → ℕ → A → A → A
 written zero new old = new
 written (suc k) new old = old

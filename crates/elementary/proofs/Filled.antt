@@ -23,31 +23,31 @@ pub filled-more : (f : ℕ → Float) (xs : List Float) (i : ℕ) (v : Float) �
 filled-more f xs i v h e g =
     below-more (λ k. getD (set xs i v) k nan ≡ f k) i (λ k l. getD-set-other xs i k v nan (ne-of-lt l) ∙ g k l) (getD-set-same xs i v nan h ∙ e)
 
-length-from : (n s : ℕ) (f : ℕ → Float) → length (from s n f) ≡ n
+length-from : {A : Type 0} (n s : ℕ) (f : ℕ → A) → length (from s n f) ≡ n
 unfolding from
 length-from zero s f = refl
 length-from (suc n) s f = ap suc (length-from n (suc s) f)
 
-pub length-listOf : (n : ℕ) (f : ℕ → Float) → length (listOf n f) ≡ n
+pub length-listOf : {A : Type 0} (n : ℕ) (f : ℕ → A) → length (listOf n f) ≡ n
 unfolding listOf
 length-listOf n f = length-from n 0 f
 
-getD-from : (n s : ℕ) (f : ℕ → Float) (k : ℕ) → k < n → getD (from s n f) k nan ≡ f (s + k)
+getD-from : {A : Type 0} (n s : ℕ) (f : ℕ → A) (d : A) (k : ℕ) → k < n → getD (from s n f) k d ≡ f (s + k)
 unfolding from
-getD-from zero s f k h = absurd (omega arith)
-getD-from (suc n) s f zero h = ap f (sym (add-zero s))
-getD-from (suc n) s f (suc k) h =
+getD-from zero s f d k h = absurd (omega arith)
+getD-from (suc n) s f d zero h = ap f (sym (add-zero s))
+getD-from (suc n) s f d (suc k) h =
     let e : suc s + k ≡ s + suc k = omega arith in
-    getD-from n (suc s) f k (omega arith) ∙ ap f e
+    getD-from n (suc s) f d k (omega arith) ∙ ap f e
 
-pub getD-listOf : (n : ℕ) (f : ℕ → Float) (k : ℕ) → k < n → getD (listOf n f) k nan ≡ f k
+pub getD-listOf : {A : Type 0} (n : ℕ) (f : ℕ → A) (d : A) (k : ℕ) → k < n → getD (listOf n f) k d ≡ f k
 unfolding listOf
-getD-listOf n f k h = getD-from n 0 f k h ∙ ap f (zero-add k)
+getD-listOf n f d k h = getD-from n 0 f d k h ∙ ap f (zero-add k)
 
 -- a list that is filled to its end
 pub filled-all : (f : ℕ → Float) (xs : List Float) (n : ℕ) → length xs ≡ n → Filled f xs n → xs ≡ listOf n f
 filled-all f xs n e g =
-    ext-getD nan xs (listOf n f) (e ∙ sym (length-listOf n f)) (λ k h. let l : k < n = omega arith in g k l ∙ sym (getD-listOf n f k l))
+    ext-getD nan xs (listOf n f) (e ∙ sym (length-listOf n f)) (λ k h. let l : k < n = omega arith in g k l ∙ sym (getD-listOf n f nan k l))
 
 -- ---- the loop as a whole: after i turns out of n
 
@@ -72,7 +72,7 @@ fills-all {f = f} {xs = xs} {n = n} {i = i} h l =
 -- ---- what is the same below n
 
 pub listOf-same : (n : ℕ) (f g : ℕ → Float) → ((k : ℕ) → k < n → f k ≡ g k) → listOf n f ≡ listOf n g
-listOf-same n f g h = filled-all g (listOf n f) n (length-listOf n f) (λ k l. getD-listOf n f k l ∙ h k l)
+listOf-same n f g h = filled-all g (listOf n f) n (length-listOf n f) (λ k l. getD-listOf n f nan k l ∙ h k l)
 
 pub sumTo-same : (n : ℕ) (f g : ℕ → Float) → ((k : ℕ) → k < n → f k ≡ g k) → sumTo f n ≡ sumTo g n
 unfolding sumTo

@@ -42,7 +42,7 @@ map-listOf g n f = map-from g n 0 f
 -- ---- lists that a function of the index gives, below n
 
 pub getD-listed : (n : ℕ) (f : ℕ → Float) (xs : List Float) → xs ≡ listOf n f → (k : ℕ) → k < n → getD xs k nan ≡ f k
-getD-listed n f xs e k h = ap (λ (ys : List Float). getD ys k nan) e ∙ getD-listOf n f k h
+getD-listed n f xs e k h = ap (λ (ys : List Float). getD ys k nan) e ∙ getD-listOf n f nan k h
 
 pub length-listed : (n : ℕ) (f : ℕ → Float) (xs : List Float) → xs ≡ listOf n f → length xs ≡ n
 length-listed n f xs e = ap length e ∙ length-listOf n f

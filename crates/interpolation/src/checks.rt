@@ -6,6 +6,8 @@ ghost use lib.ListN.{length};
 ghost use Rattle.interpolation.specs.Checks as Checks;
 use crate::nodes::nodes_ok;
 
+// The fewest nodes of a list.
+pub const MIN_NODES: usize = 2;
 // The most nodes of the first list, which are the rows of a table.
 pub const MAX_ROWS: usize = 128;
 // The most nodes of the second list, which are its columns.
@@ -16,13 +18,21 @@ pub const MAX_ALLOWANCE: u32 = 1000;
 pub fn check_rows(n: usize) -> u32
     ensures { λ r. ⌜ r ≡ Checks.check1 n ⌝ }
 {
-    if 2 <= n && n <= MAX_ROWS { 0 } else { 1 }
+    if MIN_NODES <= n && n <= MAX_ROWS {
+        0
+    } else {
+        1
+    }
 }
 
 pub fn check_radii(m: usize) -> u32
     ensures { λ r. ⌜ r ≡ Checks.check2 m ⌝ }
 {
-    if 2 <= m && m <= MAX_RADII { 0 } else { 2 }
+    if MIN_NODES <= m && m <= MAX_RADII {
+        0
+    } else {
+        2
+    }
 }
 
 pub fn check_length(length: usize, expected: usize) -> u32
