@@ -1,0 +1,28 @@
+-- `table::starting::clear_bytes` meets its contract. The invariant: as many zeros as turns were made, and then the list as it was. Assumes nothing.
+use mathlib.Core.Path.{_≡_}
+use Prim.Native.Nat.{_-_}
+use native.Mathlib.Omega.{arith}
+use lib.ListN.{length}
+use Rattle.table.proofs.Cleared.{Copies, copies-none, copies-more, copies-all}
+use Rattle.table.proofs.starting.clear_bytes.Statement.{statement}
+use Rattle.table.proofs.starting.clear_bytes.Tie as tie
+
+abbrev Inv-loop : tie.InvT-loop
+Inv-loop xs₀ n i₀ xs i = Copies 0 xs₀ xs i
+
+abbrev μ-loop : tie.MeasureT-loop
+μ-loop xs₀ n i₀ xs i = n - i
+
+pub clear-bytes-spec : {M : Type 1} → statement M
+clear-bytes-spec =
+    tie.close
+    (tie.spec
+    Inv-loop
+    μ-loop
+    (λ c. copies-none _ _)
+    (λ c. omega (arith, c .before .loop .inv .as-long))
+    (λ c. omega arith)
+    (λ c. omega arith)
+    (λ c. copies-more (c .loop-test .taken) (c .before .loop .inv))
+    (λ c. c .before .loop .inv .as-long)
+    (λ c. copies-all (c .loop-test .left) (c .before .loop .inv)))
