@@ -1,6 +1,6 @@
 -- What the checks of a table say: where a call's number is 0 every check of it has passed, so the sizes are in range, the lists have the record's lengths, the nodes are accepted and the row exists. Assumes nothing.
 use mathlib.Core.Path.{_≡_, sym, _∙_}
-use mathlib.Core.Bool.{Bool, true, _&&_}
+use mathlib.Core.Bool.{true, _&&_}
 use mathlib.Core.List.{List}
 use Prim.Native.Nat.{ℕ, _*_, _≤_, _<_}
 use native.Mathlib.Nat.{mul-le-mul}

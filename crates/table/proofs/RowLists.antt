@@ -1,14 +1,14 @@
 -- Lists by index and lists of rows, with one of them replaced: what `set` does to `listOf`, and `put` to `rowsFrom`. Assumes nothing.
 use mathlib.Core.Path.{_≡_, refl, sym, ap, _∙_}
 use mathlib.Core.Bool.{Bool, true, false, cond}
-use mathlib.Core.List.{List, [], _∷_, _++_}
+use mathlib.Core.List.{List, _∷_, _++_}
 use Prim.Native.Nat.{ℕ, zero, suc, _+_, _*_, _≤_, _<_}
 use native.Mathlib.Nat.{add-zero, zero-add, suc-add, add-suc, zero-mul}
 use native.Mathlib.Omega.{arith}
 use borrow.Author.Tests.{eqb-true, eqb-false}
 use lib.Dec.{eqb}
-use lib.ListN.{length, length-set, length-append, length-replicate, getD, set, take, drop, replicate, replicate-append-replicate}
-use lib.Seq.{ext-getD, getD-set-same, getD-set-other, take-at, drop-at, drop-append-add}
+use lib.ListN.{length, length-set, length-append, getD, set, take, drop, replicate, replicate-append-replicate}
+use lib.Seq.{ext-getD, getD-set-same, getD-set-other, take-at, drop-append-add}
 use lib.Ieee.{Float}
 use Rattle.elementary.specs.Lists.{from, listOf}
 use Rattle.elementary.proofs.Filled.{length-listOf, getD-listOf}

@@ -1,7 +1,7 @@
 -- The laws of a table. A build replaces one row, so row k of what it leaves is the new row or the old one (`each-row`), and since rows and nodes make up a table (`rows-decide`) nothing else can change.
 -- A set's table is made of rows by index, so replacing row i there is adding i to the set (`built-on`). Assumes nothing.
 use mathlib.Core.Path.{_≡_, refl, sym, ap, ap₂, _∙_, fun-ext}
-use mathlib.Core.Bool.{Bool, true, false, cond, _&&_}
+use mathlib.Core.Bool.{Bool, true, false, cond}
 use mathlib.Core.List.{List}
 use Prim.Native.Nat.{ℕ, _+_, _*_, _≤_, _<_}
 use native.Mathlib.Omega.{arith}
@@ -22,8 +22,7 @@ use Rattle.table.specs.Calls.{put, started, start, built, build}
 use Rattle.table.specs.Sets.{Rows, noRows, adding, rowsFrom, tableOf}
 use Rattle.table.specs.Laws.{TableRow, rowAt, builtRow, Accepted, TableLaws}
 use Rattle.table.specs.declared.parameters.Record.{Record}
-use Rattle.table.specs.declared.parameters.Lengths.{Lengths}
-use Rattle.table.proofs.Refusals.{Fits, BuildAccepted, build-accepted, lengths-fit}
+use Rattle.table.proofs.Refusals.{build-accepted, lengths-fit}
 use Rattle.table.proofs.Parts.{length-put, put-here, put-other, rows-same, row-within}
 use Rattle.table.proofs.RowLengths.{length-profile, length-cdf-row}
 use Rattle.table.proofs.RowLists.{replicate-listOf, set-listOf, chosen-long, length-rows, replicate-rows, put-rows}
@@ -62,13 +61,13 @@ each-row r i t h k l =
     let rho = getD (t .rhoSamples) i nan in
     let radii = t .radiusSamples in
     let within = row-within (r .n) (r .m) i (a .row) in
-    rw (
-      put-at-each (r .m) i k (profileRow r rho radii) (t .profile) (length-profile r rho radii ∙ fits .radius-fits) (rw (fits .profile-fits) within),
-      put-at-each (r .m) i k (cdfRow r rho radii) (t .profileCdf) (length-cdf-row r rho radii ∙ fits .radius-fits) (rw (fits .cdf-fits) within),
-      set-at-each (t .rhoEff) i k (effectiveAlbedo r rho radii) nan (rw (fits .eff-fits) (a .row)),
-      set-at-each (t .marks) i k 1 0 (rw (fits .marks-fit) (a .row)),
-    )
-    (choice (eqb k i) (builtRow r i (t .rhoSamples) radii) (rowAt r t k))
+    (λ x. record {
+      profile = put-at-each (r .m) i k (profileRow r rho radii) (t .profile) (length-profile r rho radii ∙ fits .radius-fits) (rw (fits .profile-fits) within) x;
+      cdf = put-at-each (r .m) i k (cdfRow r rho radii) (t .profileCdf) (length-cdf-row r rho radii ∙ fits .radius-fits) (rw (fits .cdf-fits) within) x;
+      albedo = set-at-each (t .rhoEff) i k (effectiveAlbedo r rho radii) nan (rw (fits .eff-fits) (a .row)) x;
+      mark = set-at-each (t .marks) i k 1 0 (rw (fits .marks-fit) (a .row)) x;
+    })
+    ∙ choice (eqb k i) (builtRow r i (t .rhoSamples) radii) (rowAt r t k)
 
 -- ---- rows and nodes make up a table
 

@@ -52,8 +52,9 @@ pub fn build_row(
         × (now (profile .exit) ≡ put (i * r .m) (Row.profileRow r rho (now («radius_samples» .entry))) (now (profile .entry)))
         × (now («profile_cdf» .exit) ≡ put (i * r .m) (Row.cdfRow r rho (now («radius_samples» .entry))) (now («profile_cdf» .entry))) ⌝ }
 {
-    let start = i * r.m;
-    let end = start + r.m;
+    let m = r.m;
+    let start = i * m;
+    let end = start + m;
     fill_row(r, rho, radius_samples, &mut profile[start..end]);
     integrate_catmull_rom(
         radius_samples,

@@ -1,6 +1,5 @@
 // The offered call `start`.
 ghost use mathlib.Core.Path.{_≡_};
-ghost use mathlib.Core.List.{List};
 ghost use lib.ListN.{length, replicate};
 ghost use Rattle.elementary.specs.Notation.{lit};
 ghost use Rattle.table.specs.Lists.{lists, effect, told};
@@ -21,12 +20,12 @@ fn clear_floats(xs: &mut [f32])
     }
 }
 
-fn clear_bytes(xs: &mut [u8])
-    ensures { λ y. ⌜ now (xs .exit) ≡ replicate (length (now (xs .entry))) 0 ⌝ }
+fn clear_marks(marks: &mut [u8])
+    ensures { λ y. ⌜ now (marks .exit) ≡ replicate (length (now (marks .entry))) 0 ⌝ }
 {
-    let n = xs.len();
+    let n = marks.len();
     for i in 0..n {
-        xs[i] = 0;
+        marks[i] = 0;
     }
 }
 
@@ -61,6 +60,6 @@ pub fn start(
     clear_floats(profile);
     clear_floats(rho_eff);
     clear_floats(profile_cdf);
-    clear_bytes(marks);
+    clear_marks(marks);
     Outcome::Done
 }

@@ -1,13 +1,11 @@
 -- `table::building::build` meets its contract: the answer and the lists both go by the number of the checks. Where no check refuses, every length is the record's, so the row lies within its lists. Assumes nothing.
 use borrow.Author.Needs.{needs}
-use mathlib.Core.Path.{_≡_, sym, _∙_}
-use Prim.Native.Nat.{_+_, _*_, _≤_, _<_}
-use native.Mathlib.Nat.{le-trans}
+use mathlib.Core.Path.{sym, _∙_}
+use Prim.Native.Nat.{_<_}
 use native.Mathlib.Omega.{arith}
-use lib.Dec.{lit≤}
-use lib.ListN.{length}
+use lib.ListN.{length, set}
 use Rattle.answers.proofs.Refusals.{nothing, refuses, keeps, answers, writes}
-use Rattle.table.specs.Lists.{lists, lengthsOf, told}
+use Rattle.table.specs.Lists.{lists, lengthsOf, effect, done, told}
 use Rattle.table.specs.Calls as Calls
 use Rattle.table.proofs.Refusals.{BuildAccepted, build-accepted}
 use Rattle.table.proofs.Parts.{row-within}
@@ -16,7 +14,10 @@ use Rattle.table.proofs.building.build.Tie as tie
 
 returns : tie.Need-returns
 unfolding told Calls.build
-returns c = rw (← c .before .build-number .ensures, refuses _ _ (c .if1 .taken), keeps _ _ _ (c .if1 .taken))
+returns c =
+    let number = c .before .build-number .result in
+    let refused : 0 < number = omega (arith, c .if1 .taken) in
+    rw (← c .before .build-number .ensures, refuses number _ refused, keeps number _ _ refused)
 
 abbrev start : tie.Else1 → tie.Start
 start c = c .before .before .before .before .before .before .before .before
@@ -48,11 +49,11 @@ build-row-requires c κs =
     let fits = a .table .sizes .fits in
     let s = start else1 in
     let r = s .args .r in (
-      le-trans (lit≤ tt) (range .radii .0),
+      omega (arith, range .radii),
       range .radii .1,
-      le-trans (a .row) (range .rows .1),
+      omega (arith, a .row, range .rows),
       fits .radius-fits,
-      rw (fits .profile-fits) (row-within (r .n) (r .m) (s .args .i) (a .row)),
+      omega (arith, row-within (r .n) (r .m) (s .args .i) (a .row), fits .profile-fits),
       fits .cdf-fits ∙ sym (fits .profile-fits),
     )
 
@@ -61,8 +62,17 @@ unfolding told Calls.build Calls.built
 returns-2 c =
     let called = c .before .before .before .before in
     let else1 = called .before .before .before .before in
+    let s = start else1 in
     let row = called .build-row .ensures in
-    rw (← else1 .before .build-number .ensures, answers _ _ (else1 .if1 .left), writes _ _ _ (else1 .if1 .left), row .0, row .1, row .2)
+    rw (← else1 .before .build-number .ensures, answers _ _ (else1 .if1 .left), writes _ _ _ (else1 .if1 .left))
+    (λ x. effect done (record {
+      rhoSamples = s .args .rho-samples .now;
+      radiusSamples = s .args .radius-samples .now;
+      profile = row .1 x;
+      rhoEff = set (s .args .rho-eff .now) (s .args .i) (row .0 x);
+      profileCdf = row .2 x;
+      marks = set (s .args .marks .now) (s .args .i) 1;
+    }))
 
 pub build-spec : {M : Type 1} → statement M
 build-spec =

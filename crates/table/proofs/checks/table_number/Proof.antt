@@ -2,7 +2,7 @@
 use borrow.Author.Needs.{needs}
 use native.Mathlib.Omega.{arith}
 use Rattle.answers.proofs.Refusals.{first-here, first-next, first-last, nothing}
-use Rattle.table.specs.Checks.{startNumber, tableNumber}
+use Rattle.table.specs.Checks.{tableNumber}
 use Rattle.table.proofs.Refusals.{Started, start-accepted}
 use Rattle.table.proofs.checks.table_number.Statement.{statement}
 use Rattle.table.proofs.checks.table_number.Tie as tie
@@ -17,7 +17,7 @@ sized c = start-accepted _ _ (nothing _ _ (c .before .start-number .ensures) (c 
 check-nodes-requires : tie.Need-check-nodes-requires
 check-nodes-requires c κs =
     let s = sized c in
-    omega (arith, s .fits .rho-fits, s .range .rows, c .before .before .before .before .pre .0)
+    omega (arith, s .fits, s .range, c .before .before .before .before .pre)
 
 returns-2 : tie.Need-returns-2
 unfolding tableNumber
@@ -29,7 +29,7 @@ check-nodes-requires-2 : tie.Need-check-nodes-requires-2
 check-nodes-requires-2 c κs =
     let sizes = c .before .before in
     let s = sized sizes in
-    omega (arith, s .fits .radius-fits, s .range .radii, sizes .before .before .before .before .pre .1)
+    omega (arith, s .fits, s .range, sizes .before .before .before .before .pre)
 
 returns-3 : tie.Need-returns-3
 unfolding tableNumber

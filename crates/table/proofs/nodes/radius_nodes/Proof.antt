@@ -1,9 +1,9 @@
 -- `table::nodes::radius_nodes` meets its contract. The invariant: the list is filled so far, the first two among it. Assumes nothing.
-use mathlib.Core.Path.{_≡_, refl, sym, ap, _∙_}
-use Prim.Native.Nat.{_-_, _≤_, _<_}
+use mathlib.Core.Path.{refl, sym, ap, _∙_}
+use Prim.Native.Nat.{_-_, _≤_}
 use native.Mathlib.Omega.{arith}
 use lib.Ieee.{Float}
-use lib.ListN.{length, length-set, set}
+use lib.ListN.{length-set, set}
 use Rattle.elementary.specs.Notation.{_⊗_, lit}
 use Rattle.elementary.proofs.Filled.{Fills, fills-none, fills-more, fills-all}
 use Rattle.table.specs.Nodes.{radiusSample, «1·2»}

@@ -1,25 +1,27 @@
 -- `table::row::build_row` meets its contract. Both parts begin at i times m and have m elements: what comes back from each call is the list with the row in that place. Assumes nothing.
 use borrow.Author.Needs.{needs}
 use borrow.Rule.Slice.PartMut.{putMid}
-use mathlib.Core.Path.{_≡_, sym, _∙_, ap}
-use Prim.Native.Nat.{_+_, _-_, _*_, _≤_}
-use lib.ListN.{length, take, drop}
-use Rattle.elementary.proofs.Mapped.{length-map}
-use Rattle.elementary.proofs.Filled.{length-listOf}
+use mathlib.Core.Path.{_≡_, _∙_, ap}
+use Prim.Native.Nat.{_+_, _-_, _*_}
+use lib.ListN.{take, drop}
 use Rattle.interpolation.specs.Integral.{integrateCatmullRom, cdfOf}
-use Rattle.table.specs.Row.{profileEntry, profileRow, cdfRow, effectiveAlbedo}
+use Rattle.table.specs.Row.{profileRow, cdfRow, effectiveAlbedo}
 use Rattle.table.specs.Calls.{put}
 use Rattle.table.proofs.Parts.{put-back, read-back}
 use Rattle.table.proofs.RowLengths.{length-profile, length-cdf}
 use Rattle.table.proofs.row.build_row.Statement.{statement}
 use Rattle.table.proofs.row.build_row.Tie as tie
 
+-- the part has as many elements as there are radii
+fill-row-requires : tie.Need-fill-row-requires
+fill-row-requires c κs = search needs
+
 returns : tie.Need-returns
 unfolding cdfRow effectiveAlbedo
 returns c =
     let called = c .before .before in
     let filled = called .before .before .before .before .before .before in
-    let s = filled .before .before .before .before .before .before .before in
+    let s = filled .before .before .before .before .before in
     let r = s .args .r in
     let x = s .args .radius-samples .now in
     let m = r .m in
@@ -46,7 +48,7 @@ build-row-spec =
     (λ c. search needs)
     (λ c. search needs)
     (λ c. search needs)
-    (λ c κs. search needs)
+    fill-row-requires
     (λ c. search needs)
     (λ c. search needs)
     (λ c. search needs)

@@ -1,6 +1,5 @@
 -- `table::starting::clear_floats` meets its contract. The invariant: as many zeros as turns were made, and then the list as it was. Assumes nothing.
-use mathlib.Core.Path.{_≡_}
-use Prim.Native.Nat.{_-_}
+use Prim.Native.Nat.{_-_, _<_}
 use native.Mathlib.Omega.{arith}
 use lib.ListN.{length}
 use Rattle.elementary.specs.Notation.{lit}
@@ -14,6 +13,11 @@ Inv-loop xs₀ n i₀ xs i = Copies (lit 0) xs₀ xs i
 abbrev μ-loop : tie.MeasureT-loop
 μ-loop xs₀ n i₀ xs i = n - i
 
+loop-again : tie.Need-loop-again Inv-loop μ-loop
+loop-again c =
+    let inside : c .before .loop .i < length (c .before .before .args .xs .now) = omega arith in
+    copies-more inside (c .before .loop .inv)
+
 pub clear-floats-spec : {M : Type 1} → statement M
 clear-floats-spec =
     tie.close
@@ -25,6 +29,6 @@ clear-floats-spec =
     (λ c. omega (arith, c .before .loop .inv .as-long))
     (λ c. omega arith)
     (λ c. omega arith)
-    (λ c. copies-more (c .loop-test .taken) (c .before .loop .inv))
+    loop-again
     (λ c. c .before .loop .inv .as-long)
     (λ c. copies-all (c .loop-test .left) (c .before .loop .inv)))

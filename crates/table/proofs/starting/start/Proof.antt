@@ -1,6 +1,7 @@
 -- `table::starting::start` meets its contract: the answer and the lists both go by the number of the checks. Where no check refuses, every length is the record's, so each list is filled to the record's size. Assumes nothing.
 use borrow.Author.Needs.{needs}
-use mathlib.Core.Path.{_≡_}
+use Prim.Native.Nat.{_<_}
+use native.Mathlib.Omega.{arith}
 use Rattle.answers.proofs.Refusals.{nothing, refuses, keeps, answers, writes}
 use Rattle.table.specs.Lists.{lists, lengthsOf, told}
 use Rattle.table.specs.Nodes.{rhoSamples, radiusSamples}
@@ -11,7 +12,10 @@ use Rattle.table.proofs.starting.start.Tie as tie
 
 returns : tie.Need-returns
 unfolding told Calls.start
-returns c = rw (← c .before .start-number .ensures, refuses _ _ (c .if1 .taken), keeps _ _ _ (c .if1 .taken))
+returns c =
+    let number = c .before .start-number .result in
+    let refused : 0 < number = omega (arith, c .if1 .taken) in
+    rw (← c .before .start-number .ensures, refuses number _ refused, keeps number _ _ refused)
 
 abbrev entry : tie.Else1 → tie.Start
 entry c = c .before .before .before .before .before .before .before .before
@@ -55,7 +59,7 @@ returns-2 c =
       profile .clear-floats .ensures,
       eff .clear-floats2 .ensures,
       cdf .clear-floats3 .ensures,
-      marks .clear-bytes .ensures,
+      marks .clear-marks .ensures,
       fits .rho-fits,
       fits .radius-fits,
       fits .profile-fits,
