@@ -9,6 +9,9 @@ use Rattle.answers.specs.Checks.{unlessPassed}
 use Rattle.interpolation.specs.Nodes.{nodesOk}
 
 -- the limits
+abbrev pub minNodes : ℕ
+minNodes = 2
+
 unfoldable pub maxRows : ℕ
 maxRows = 128
 
@@ -20,11 +23,11 @@ maxAllowance = 1000
 
 -- 1: N outside its range
 unfoldable pub check1 : ℕ → ℕ
-check1 n = unlessPassed 1 (leb 2 n && leb n maxRows)
+check1 n = unlessPassed 1 (leb minNodes n && leb n maxRows)
 
 -- 2: M outside its range
 unfoldable pub check2 : ℕ → ℕ
-check2 m = unlessPassed 2 (leb 2 m && leb m maxRadii)
+check2 m = unlessPassed 2 (leb minNodes m && leb m maxRadii)
 
 -- 5: a length differs
 unfoldable pub check5 : ℕ → ℕ → ℕ

@@ -1,6 +1,9 @@
 // What a table's calls are given and give: the record, the lengths of the six lists, and the answer.
 ghost use mathlib.Core.Path.{_≡_};
+ghost use Rattle.interpolation.specs.Checks.{minNodes, maxRows, maxRadii};
+ghost use Rattle.scattering.specs.Checks.{minEta, maxEta};
 ghost use Rattle.table.specs.Lists as Lists;
+ghost use Rattle.table.specs.Checks.{minG, maxG};
 
 // The record of a table: n albedo rows of m radii each, the phase function's g, and the index of
 // refraction eta.
@@ -47,6 +50,14 @@ impl Record {
         }
     }
 }
+
+// The limits are those of the definitions: that is the contract, and the function does nothing.
+pub fn limits()
+    ensures { λ y. do n ← ⟦Record::MIN_ROWS⟧ .entry; m ← ⟦Record::MIN_RADII⟧ .entry; ⌜ (n ≡ minNodes) × (m ≡ minNodes) ⌝ }
+    ensures { λ y. do n ← ⟦Record::MAX_ROWS⟧ .entry; m ← ⟦Record::MAX_RADII⟧ .entry; ⌜ (n ≡ maxRows) × (m ≡ maxRadii) ⌝ }
+    ensures { λ y. do a ← ⟦Record::MIN_G⟧ .entry; b ← ⟦Record::MAX_G⟧ .entry; ⌜ (a ≡ minG) × (b ≡ maxG) ⌝ }
+    ensures { λ y. do a ← ⟦Record::MIN_ETA⟧ .entry; b ← ⟦Record::MAX_ETA⟧ .entry; ⌜ (a ≡ minEta) × (b ≡ maxEta) ⌝ }
+{}
 
 // The lengths of the six lists that are lent.
 pub struct Lengths {
