@@ -12,7 +12,7 @@ use lib.Dec.{ltb}
 use lib.ListN.{length, length-append, length-drop, take, drop, take-append-drop}
 use lib.Seq.{drop-drop, drop-at, take-at, take-all, take-add, length-take-le, drop-append-le, take-append-le, drop-append-add}
 use lib.Ieee.{Float}
-use Rattle.table.specs.Calls.{put}
+use Rattle.table.specs.Row.{put}
 
 pub put-back : (a m : ℕ) (xs part : List Float) → length part ≡ m → putMid a (a + m - a) xs part ≡ put a part xs
 unfolding put

@@ -12,7 +12,7 @@ use lib.Seq.{ext-getD, getD-set-same, getD-set-other, take-at, drop-append-add}
 use lib.Ieee.{Float}
 use Rattle.elementary.specs.Lists.{from, listOf}
 use Rattle.elementary.proofs.Filled.{length-listOf, getD-listOf}
-use Rattle.table.specs.Calls.{put}
+use Rattle.table.specs.Row.{put}
 use Rattle.table.specs.Sets.{rowsFrom}
 use Rattle.table.proofs.Parts.{length-put, put-here, put-other, rows-same, row-within}
 

@@ -14,11 +14,13 @@ use Rattle.elementary.specs.Notation.{lit}
 use Rattle.elementary.specs.Lists.{listOf}
 use Rattle.elementary.proofs.Filled.{length-listOf}
 use Rattle.answers.proofs.Refusals.{keeps}
-use Rattle.table.specs.Lists.{Lists, lists, lengthsOf}
+use Rattle.table.specs.Parameters.{Lists, lists, lengthsOf}
 use Rattle.table.specs.Checks.{check5, startNumber, buildNumber}
 use Rattle.table.specs.Nodes.{rhoSample, rhoSamples, radiusSample, radiusSamples}
 use Rattle.table.specs.Row.{profileRow, cdfRow, effectiveAlbedo}
-use Rattle.table.specs.Calls.{put, started, start, built, build}
+use Rattle.table.specs.Row.{put}
+use Rattle.table.specs.Starting.{started, start}
+use Rattle.table.specs.Building.{built, build}
 use Rattle.table.specs.Sets.{Rows, noRows, adding, rowsFrom, tableOf}
 use Rattle.table.specs.Laws.{TableRow, rowAt, builtRow, Accepted, TableLaws}
 use Rattle.table.specs.declared.parameters.Record.{Record}

@@ -6,10 +6,11 @@ use mathlib.Core.List.{List}
 use lib.Dec.{eqb}
 use lib.ListN.{getD, take, drop}
 use lib.Ieee.{Float, nan}
-use Rattle.table.specs.Lists.{Lists, lengthsOf}
+use Rattle.table.specs.Parameters.{Lists, lengthsOf}
 use Rattle.table.specs.Checks.{check5, startNumber, buildNumber}
 use Rattle.table.specs.Row.{profileRow, cdfRow, effectiveAlbedo}
-use Rattle.table.specs.Calls.{started, start, built, build}
+use Rattle.table.specs.Starting.{started, start}
+use Rattle.table.specs.Building.{built, build}
 use Rattle.table.specs.Sets.{Rows, noRows, adding, tableOf}
 use Rattle.table.specs.declared.parameters.Record.{Record}
 

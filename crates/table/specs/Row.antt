@@ -1,5 +1,7 @@
 -- One row of a table (document 01, "Building one row"; the loop of `compute_beam_diffusion_bssrdf` in bssrdf.rs).
-use mathlib.Core.List.{List, map}
+use Prim.Native.Nat.{ℕ, _+_}
+use mathlib.Core.List.{List, map, _++_}
+use lib.ListN.{length, take, drop}
 use lib.Ieee.{Float}
 use Rattle.elementary.specs.Notation.{_⊕_, _⊖_, _⊗_}
 use Rattle.elementary.specs.Constants.{pi}
@@ -9,20 +11,24 @@ use Rattle.scattering.specs.Single.{beamDiffusionSs}
 use Rattle.scattering.specs.Multiple.{beamDiffusionMs}
 use Rattle.table.specs.declared.parameters.Record.{Record}
 
--- 2.0 * PI * r * (ss + ms): the albedo rho is sigma_s, and 1 minus it sigma_a
+-- the entry at the radius x, which is the Rust's r: 2.0 * PI * r * (ss + ms). The albedo rho is sigma_s, and 1 minus it sigma_a
 unfoldable pub profileEntry : Record → Float → Float → Float
-profileEntry t rho r =
-    let ss = beamDiffusionSs rho (one ⊖ rho) (t .g) (t .eta) r in
-    let ms = beamDiffusionMs rho (one ⊖ rho) (t .g) (t .eta) r in
-    two ⊗ pi ⊗ r ⊗ (ss ⊕ ms)
+profileEntry r rho x =
+    let ss = beamDiffusionSs rho (one ⊖ rho) (r .g) (r .eta) x in
+    let ms = beamDiffusionMs rho (one ⊖ rho) (r .g) (r .eta) x in
+    two ⊗ pi ⊗ x ⊗ (ss ⊕ ms)
 
 -- the profile over the radii
 unfoldable pub profileRow : Record → Float → List Float → List Float
-profileRow t rho radii = map (profileEntry t rho) radii
+profileRow r rho radii = map (profileEntry r rho) radii
 
 -- its CDF, and its effective albedo, which is the sum
 unfoldable pub cdfRow : Record → Float → List Float → List Float
-cdfRow t rho radii = cdfOf radii (profileRow t rho radii)
+cdfRow r rho radii = cdfOf radii (profileRow r rho radii)
 
 unfoldable pub effectiveAlbedo : Record → Float → List Float → Float
-effectiveAlbedo t rho radii = integrateCatmullRom radii (profileRow t rho radii)
+effectiveAlbedo r rho radii = integrateCatmullRom radii (profileRow r rho radii)
+
+-- a list in which `part` has taken the place of as many elements, from the place `at` on
+unfoldable pub put : ℕ → List Float → List Float → List Float
+put at part xs = take at xs ++ (part ++ drop (at + length part) xs)

@@ -7,7 +7,7 @@ use lib.ListN.{getD, replicate}
 use lib.Ieee.{Float, nan}
 use Rattle.elementary.specs.Notation.{lit}
 use Rattle.elementary.specs.Lists.{listOf}
-use Rattle.table.specs.Lists.{Lists, lists}
+use Rattle.table.specs.Parameters.{Lists}
 use Rattle.table.specs.Nodes.{rhoSamples, radiusSamples}
 use Rattle.table.specs.Row.{profileRow, cdfRow, effectiveAlbedo}
 use Rattle.table.specs.declared.parameters.Record.{Record}
@@ -33,8 +33,11 @@ tableOf r S =
     let radii = radiusSamples r in
     let rho : ℕ → Float = λ k. getD (rhoSamples r) k nan in
     let zeros = replicate (r .m) (lit 0) in
-    lists (rhoSamples r) radii
-    (rowsFrom 0 (r .n) (λ k. cond (S k) (profileRow r (rho k) radii) zeros))
-    (listOf (r .n) (λ k. cond (S k) (effectiveAlbedo r (rho k) radii) (lit 0)))
-    (rowsFrom 0 (r .n) (λ k. cond (S k) (cdfRow r (rho k) radii) zeros))
-    (listOf (r .n) (λ k. cond (S k) 1 0))
+    record {
+      rhoSamples = rhoSamples r;
+      radiusSamples = radiusSamples r;
+      profile = rowsFrom 0 (r .n) (λ k. cond (S k) (profileRow r (rho k) radii) zeros);
+      rhoEff = listOf (r .n) (λ k. cond (S k) (effectiveAlbedo r (rho k) radii) (lit 0));
+      profileCdf = rowsFrom 0 (r .n) (λ k. cond (S k) (cdfRow r (rho k) radii) zeros);
+      marks = listOf (r .n) (λ k. cond (S k) 1 0);
+    }

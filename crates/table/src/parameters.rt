@@ -2,7 +2,7 @@
 ghost use mathlib.Core.Path.{_≡_};
 ghost use Rattle.interpolation.specs.Checks.{minNodes, maxRows, maxRadii};
 ghost use Rattle.scattering.specs.Checks.{minEta, maxEta};
-ghost use Rattle.table.specs.Lists as Lists;
+ghost use Rattle.table.specs.Parameters as Parameters;
 ghost use Rattle.table.specs.Checks.{minG, maxG};
 
 // The record of a table: n albedo rows of m radii each, the phase function's g, and the index of
@@ -33,14 +33,14 @@ impl Record {
     pub const MAX_ETA: f32 = scattering::checks::MAX_ETA;
 
     pub fn new(n: usize, m: usize, g: f32, eta: f32) -> Record
-        ensures { λ r. ⌜ r ≡ Lists.recordOf n m g eta ⌝ }
+        ensures { λ r. ⌜ r ≡ Parameters.recordOf n m g eta ⌝ }
     {
         Record { n, m, g, eta }
     }
 
     // As many rows and radii as a table can have.
     pub fn largest(g: f32, eta: f32) -> Record
-        ensures { λ r. ⌜ r ≡ Lists.largest g eta ⌝ }
+        ensures { λ r. ⌜ r ≡ Parameters.largest g eta ⌝ }
     {
         Record {
             n: Record::MAX_ROWS,

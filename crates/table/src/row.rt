@@ -5,7 +5,7 @@ ghost use lib.ListN.{length};
 ghost use Rattle.interpolation.specs.Checks.{maxRows, maxRadii};
 ghost use Rattle.scattering.specs.Samples.{sampleLogs};
 ghost use Rattle.table.specs.Row as Row;
-ghost use Rattle.table.specs.Calls.{put};
+ghost use Rattle.table.specs.Row.{put};
 use crate::parameters::Record;
 use elementary::PI;
 use interpolation::integral::integrate_catmull_rom;

@@ -6,7 +6,7 @@ use Prim.Native.Nat.{_+_, _-_, _*_}
 use lib.ListN.{take, drop}
 use Rattle.interpolation.specs.Integral.{integrateCatmullRom, cdfOf}
 use Rattle.table.specs.Row.{profileRow, cdfRow, effectiveAlbedo}
-use Rattle.table.specs.Calls.{put}
+use Rattle.table.specs.Row.{put}
 use Rattle.table.proofs.Parts.{put-back, read-back}
 use Rattle.table.proofs.RowLengths.{length-profile, length-cdf}
 use Rattle.table.proofs.row.build_row.Statement.{statement}
