@@ -1,4 +1,4 @@
--- Building row i, from the nodes as they are lent: its part of the profile and of the CDF, its effective albedo and its mark; every other place stays.
+-- Building row i (document 01, "Building one row"), from the nodes as they are lent: its part of the profile and of the CDF, its effective albedo and its mark; every other place stays.
 use Prim.Native.Nat.{ℕ, _*_}
 use lib.ListN.{getD, set}
 use lib.Ieee.{nan}

@@ -62,6 +62,6 @@ effect answer t = record { answer = answer; lists = t }
 abbrev pub done : Answer
 done = value [] []
 
-unfoldable pub told : Outcome → Answer
-told Done = done
-told (Refused number) = refusal number
+unfoldable pub outcomeTold : Outcome → Answer
+outcomeTold Done = done
+outcomeTold (Refused number) = refusal number

@@ -1,4 +1,4 @@
--- One row of a table (document 01, "Building one row"; the loop of `compute_beam_diffusion_bssrdf` in bssrdf.rs).
+-- One row of a table (document 01, "Building one row"): the body of the last loop of `compute_beam_diffusion_bssrdf` in bssrdf.rs.
 use Prim.Native.Nat.{ℕ, _+_}
 use mathlib.Core.List.{List, map, _++_}
 use lib.ListN.{length, take, drop}

@@ -1,4 +1,4 @@
--- Starting a table: the nodes of the record, and all else is zero.
+-- Starting a table (document 01, "Starting a table"): the nodes of the record, and all else is zero.
 use Prim.Native.Nat.{_*_}
 use lib.ListN.{replicate}
 use Rattle.elementary.specs.Notation.{lit}

@@ -1,6 +1,6 @@
 // The offered call `build`.
 ghost use mathlib.Core.Path.{_≡_};
-ghost use Rattle.table.specs.Parameters.{lists, effect, told};
+ghost use Rattle.table.specs.Parameters.{lists, effect, outcomeTold};
 ghost use Rattle.table.specs.Building as Building;
 use crate::checks::build_number;
 use crate::parameters::Lengths;
@@ -21,7 +21,7 @@ pub fn build(
     profile_cdf: &mut [f32],
     marks: &mut [u8],
 ) -> Outcome
-    ensures { λ y. ⌜ effect (told y) (lists (now («rho_samples» .exit)) (now («radius_samples» .exit)) (now (profile .exit)) (now («rho_eff» .exit)) (now («profile_cdf» .exit)) (now (marks .exit)))
+    ensures { λ y. ⌜ effect (outcomeTold y) (lists (now («rho_samples» .exit)) (now («radius_samples» .exit)) (now (profile .exit)) (now («rho_eff» .exit)) (now («profile_cdf» .exit)) (now (marks .exit)))
         ≡ Building.build r i (lists (now («rho_samples» .entry)) (now («radius_samples» .entry)) (now (profile .entry)) (now («rho_eff» .entry)) (now («profile_cdf» .entry)) (now (marks .entry))) ⌝ }
 {
     let lengths = Lengths {

@@ -2,7 +2,7 @@
 ghost use mathlib.Core.Path.{_≡_};
 ghost use lib.ListN.{length, replicate};
 ghost use Rattle.elementary.specs.Notation.{lit};
-ghost use Rattle.table.specs.Parameters.{lists, effect, told};
+ghost use Rattle.table.specs.Parameters.{lists, effect, outcomeTold};
 ghost use Rattle.table.specs.Starting as Starting;
 use crate::checks::start_number;
 use crate::nodes::radius_nodes;
@@ -40,7 +40,7 @@ pub fn start(
     profile_cdf: &mut [f32],
     marks: &mut [u8],
 ) -> Outcome
-    ensures { λ y. ⌜ effect (told y) (lists (now («rho_samples» .exit)) (now («radius_samples» .exit)) (now (profile .exit)) (now («rho_eff» .exit)) (now («profile_cdf» .exit)) (now (marks .exit)))
+    ensures { λ y. ⌜ effect (outcomeTold y) (lists (now («rho_samples» .exit)) (now («radius_samples» .exit)) (now (profile .exit)) (now («rho_eff» .exit)) (now («profile_cdf» .exit)) (now (marks .exit)))
         ≡ Starting.start r (lists (now («rho_samples» .entry)) (now («radius_samples» .entry)) (now (profile .entry)) (now («rho_eff» .entry)) (now («profile_cdf» .entry)) (now (marks .entry))) ⌝ }
 {
     let lengths = Lengths {

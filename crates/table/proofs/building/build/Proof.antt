@@ -5,7 +5,7 @@ use Prim.Native.Nat.{_<_}
 use native.Mathlib.Omega.{arith}
 use lib.ListN.{length, set}
 use Rattle.answers.proofs.Refusals.{nothing, refuses, keeps, answers, writes}
-use Rattle.table.specs.Parameters.{lists, lengthsOf, effect, done, told}
+use Rattle.table.specs.Parameters.{lists, lengthsOf, effect, done, outcomeTold}
 use Rattle.table.specs.Building as Building
 use Rattle.table.proofs.Refusals.{BuildAccepted, build-accepted}
 use Rattle.table.proofs.Parts.{row-within}
@@ -13,7 +13,7 @@ use Rattle.table.proofs.building.build.Statement.{statement}
 use Rattle.table.proofs.building.build.Tie as tie
 
 returns : tie.Need-returns
-unfolding told Building.build
+unfolding outcomeTold Building.build
 returns c =
     let number = c .before .build-number .result in
     let refused : 0 < number = omega (arith, c .if1 .taken) in
@@ -58,7 +58,7 @@ build-row-requires c κs =
     )
 
 returns-2 : tie.Need-returns-2
-unfolding told Building.build Building.built
+unfolding outcomeTold Building.build Building.built
 returns-2 c =
     let called = c .before .before .before .before in
     let else1 = called .before .before .before .before in

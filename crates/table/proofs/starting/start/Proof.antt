@@ -3,7 +3,7 @@ use borrow.Author.Needs.{needs}
 use Prim.Native.Nat.{_<_}
 use native.Mathlib.Omega.{arith}
 use Rattle.answers.proofs.Refusals.{nothing, refuses, keeps, answers, writes}
-use Rattle.table.specs.Parameters.{lists, lengthsOf, told}
+use Rattle.table.specs.Parameters.{lists, lengthsOf, outcomeTold}
 use Rattle.table.specs.Nodes.{rhoSamples, radiusSamples}
 use Rattle.table.specs.Starting as Starting
 use Rattle.table.proofs.Refusals.{Started, start-accepted}
@@ -11,7 +11,7 @@ use Rattle.table.proofs.starting.start.Statement.{statement}
 use Rattle.table.proofs.starting.start.Tie as tie
 
 returns : tie.Need-returns
-unfolding told Starting.start
+unfolding outcomeTold Starting.start
 returns c =
     let number = c .before .start-number .result in
     let refused : 0 < number = omega (arith, c .if1 .taken) in
@@ -40,7 +40,7 @@ radius-nodes-requires c κs =
     rw (a .fits .radius-fits) (a .range .radii .0)
 
 returns-2 : tie.Need-returns-2
-unfolding told Starting.start Starting.started rhoSamples radiusSamples
+unfolding outcomeTold Starting.start Starting.started rhoSamples radiusSamples
 returns-2 c =
     let marks = c .before .before in
     let cdf = marks .before .before .before .before in
