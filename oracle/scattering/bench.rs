@@ -2,57 +2,18 @@
 //! stand-ins: ns per sample, the least of many turns, in which the three take turns. The calls are those of a table of 100 albedos by
 //! 64 radii, each row with one of a few g and eta: one radius at a time, and a row at a time, where the proved function takes the
 //! logarithms once. The proved answers have to be those of the stand-ins, by bits.
+#[path = "../shared/references.rs"]
+mod references;
 #[path = "../shared/stand_ins.rs"]
 mod stand_ins;
-#[path = "../shared/stand_ins.rs"]
-mod std_functions;
 #[path = "../shared/table.rs"]
 mod table;
 #[path = "../shared/timing.rs"]
 mod timing;
 
+use references::{by_stand_ins, by_std};
 use std::hint::black_box;
 use table::{albedos, radii};
-
-/// What cut.rs wrote, by document 01's stand-ins.
-mod by_stand_ins {
-    use crate::stand_ins::StandIns;
-
-    impl StandIns for f32 {}
-
-    #[allow(dead_code, clippy::all)]
-    pub mod reference {
-        include!(env!("REFERENCE"));
-    }
-}
-
-/// The same by the functions of std.
-mod by_std {
-    use crate::std_functions::StandIns;
-
-    impl StandIns for f32 {
-        fn stand_in_root(self) -> f32 {
-            self.sqrt()
-        }
-
-        fn stand_in_exp(self) -> f32 {
-            self.exp()
-        }
-
-        fn stand_in_ln(self) -> f32 {
-            self.ln()
-        }
-
-        fn stand_in_max(self, v: f32) -> f32 {
-            self.max(v)
-        }
-    }
-
-    #[allow(dead_code, clippy::all)]
-    pub mod reference {
-        include!(env!("REFERENCE"));
-    }
-}
 
 extern "C" {
     fn scattering_beam_diffusion_ss(sigma_s: f32, sigma_a: f32, g: f32, eta: f32, r: f32) -> f32;

@@ -5,19 +5,11 @@
 #[path = "../shared/cutting.rs"]
 mod cutting;
 
-use cutting::{arguments, float_type, function, item, line, method, route, source, write};
+use cutting::{arguments, float_type, function, item, line, method, route, routed, source, write};
 
 const HEAD: &str = "use super::StandIns;
 use std::ops::{Add, Index, Mul};
 ";
-
-/// The text with as many calls of each method sent to its stand-in.
-fn routed(text: String, roots: usize, exps: usize, lns: usize, maxima: usize) -> String {
-    let text = route(&text, roots, ")", ".sqrt()", ".stand_in_root()");
-    let text = route(&text, exps, ")", ".exp()", ".stand_in_exp()");
-    let text = route(&text, lns, ")", ".ln()", ".stand_in_ln()");
-    route(&text, maxima, "(0.0 as Float)", ".max(", ".stand_in_max(")
-}
 
 /// Methods, put into an implementation again.
 fn methods(text: &str, of: &str, names: &[&str]) -> String {

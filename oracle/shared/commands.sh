@@ -29,7 +29,7 @@ case "$1 $#" in
     "$out/oracle" cases "$2" "$3" "$out/cases" "$out/expected"
     "target/bin/${name}_test" < "$out/cases" > "$out/answers"
     if cmp -s "$out/expected" "$out/answers"; then
-        echo "$(grep -c '' "$out/cases") cases, 0 differences"
+        echo "$(grep -c '' "$out/cases") lines, 0 differences"
     else
         show
         exit 1

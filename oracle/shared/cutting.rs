@@ -1,5 +1,6 @@
 //! Cuts items out of the sources of rs_pbrt by their names. They stay as they are but for the calls of methods that are sent to
 //! stand-ins. Whatever is not found as expected stops the program.
+#![allow(dead_code)]
 use std::path::Path;
 
 pub fn fail(message: String) -> ! {
@@ -86,6 +87,14 @@ pub fn route(text: &str, count: usize, before: &str, method: &str, other: &str) 
         fail(format!("`{}` was expected {} times, always after `{}`, and is there {} times", method, count, before, heads.len()));
     }
     parts.join(other)
+}
+
+/// The text with as many calls of each method sent to its stand-in.
+pub fn routed(text: String, roots: usize, exps: usize, lns: usize, maxima: usize) -> String {
+    let text = route(&text, roots, ")", ".sqrt()", ".stand_in_root()");
+    let text = route(&text, exps, ")", ".exp()", ".stand_in_exp()");
+    let text = route(&text, lns, ")", ".ln()", ".stand_in_ln()");
+    route(&text, maxima, "(0.0 as Float)", ".max(", ".stand_in_max(")
 }
 
 /// A method that is not among the known ones, stand-ins included, would be one that nobody has looked at.

@@ -1,4 +1,4 @@
-//! Writes cases and answers, a line each: a word, and numbers as a space and 8 hexadecimal digits.
+//! Writes cases and answers, a line each: a word, and further words after a space each, of which numbers are 8 hexadecimal digits.
 #![allow(dead_code)]
 use std::collections::BTreeMap;
 use std::fmt::Display;
@@ -11,9 +11,14 @@ impl Line {
         Line(word.to_string())
     }
 
-    pub fn word(mut self, n: u32) -> Line {
-        self.0.push_str(&format!(" {:08x}", n));
+    /// A space and a word of any form.
+    pub fn then(mut self, word: impl Display) -> Line {
+        self.0.push_str(&format!(" {}", word));
         self
+    }
+
+    pub fn word(self, n: u32) -> Line {
+        self.then(format_args!("{:08x}", n))
     }
 
     pub fn length(self, list: &[f32]) -> Line {

@@ -1,0 +1,2 @@
+-- The law that both proofs cite.
+pub mod Numbers

@@ -1,0 +1,39 @@
+-- `table_native::table_start` meets its contract: in each arm the number is that of the answer. Assumes nothing.
+use borrow.Author.Needs.{needs}
+use Rattle.answers.specs.Answer.{answered}
+use Rattle.table.specs.Parameters.{outcomeTold}
+use Rattle.table_native.proofs.Numbers.{numbered}
+use Rattle.table_native.proofs.table_start.Statement.{statement}
+use Rattle.table_native.proofs.table_start.Tie as tie
+
+returns : tie.Need-returns
+unfolding answered outcomeTold
+returns c = rw (c .enum-told .given .1) at (c .before .before .before .before .before .before .before .before .before .before .before .before .before .before .start .ensures)
+
+returns-2 : tie.Need-returns-2
+unfolding outcomeTold
+returns-2 c =
+    let known = c .before in
+    rw numbered (rw (known .number .given .1) at (known .before .before .before .before .before .before .before .before .before .before .before .before .before .before .start .ensures))
+
+pub table-start-spec : {M : Type 1} → statement M
+table-start-spec =
+    tie.close
+    (tie.spec
+    (λ c κs. search needs)
+    (λ c. search needs)
+    (λ c. search needs)
+    (λ c. search needs)
+    (λ c. search needs)
+    (λ c. search needs)
+    (λ c. search needs)
+    (λ c. search needs)
+    (λ c. search needs)
+    returns
+    (λ c. search needs)
+    (λ c. search needs)
+    (λ c. search needs)
+    (λ c. search needs)
+    (λ c. search needs)
+    (λ c. search needs)
+    returns-2)
