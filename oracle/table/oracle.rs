@@ -8,7 +8,7 @@
 //! nodes, profile, effective albedos, CDF and marks.
 //!   lens INT INT INT INT INT INT    sets the lengths of the six lists                        ok, or bad above a capacity
 //!   put LIST INDEX BITS ..          stores up to 64 words from an index on                   ok, or bad beyond the capacity
-//!   fill LIST BITS                  fills a list up to its capacity                          ok
+//!   fill LIST BITS                  fills a list up to its capacity                          ok, or bad if a mark is no byte
 //!   start REC                                                                                done, or refused INT
 //!   build REC ROW                                                                            done, or refused INT
 //!   dump                                                                                     hash and 16 digits
