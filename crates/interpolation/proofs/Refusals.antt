@@ -3,6 +3,7 @@ use mathlib.Core.Path.{_≡_, sym, _∙_}
 use mathlib.Core.Bool.{Bool, true, _&&_}
 use mathlib.Core.List.{List}
 use Prim.Native.Nat.{ℕ, _*_, _≤_}
+use native.Mathlib.Nat.{mul-le-mul}
 use native.Mathlib.Omega.{arith}
 use borrow.Author.Tests.{leb-true, le-leb}
 use lib.Dec.{leb, eqb, eqb→eq}
@@ -26,6 +27,11 @@ rows-in-range n h = let r = range (leb 2 n) (leb n maxRows) (passed 1 _ (omega a
 pub radii-in-range : (m : ℕ) → check2 m ≡ 0 → (2 ≤ m) × (m ≤ maxRadii)
 unfolding check2
 radii-in-range m h = let r = range (leb 2 m) (leb m maxRadii) (passed 2 _ (omega arith) h) in (leb-true 2 m (r .0), leb-true m maxRadii (r .1))
+
+-- so their product is small
+pub cells-small : {n m : ℕ} → n ≤ maxRows → m ≤ maxRadii → n * m ≤ 8192
+unfolding maxRows maxRadii
+cells-small a b = mul-le-mul a b
 
 pub allowance-in-range : (a : ℕ) → check10 a ≡ 0 → (1 ≤ a) × (a ≤ maxAllowance)
 unfolding check10

@@ -3,7 +3,6 @@ use mathlib.Core.Path.{_≡_, sym, _∙_}
 use mathlib.Core.Bool.{true, _&&_}
 use mathlib.Core.List.{List}
 use Prim.Native.Nat.{ℕ, _*_, _≤_, _<_}
-use native.Mathlib.Nat.{mul-le-mul}
 use native.Mathlib.Omega.{arith}
 use borrow.Author.Tests.{ltb-true, eqb-true}
 use lib.Dec.{ltb, eqb}
@@ -28,11 +27,6 @@ unfolding recordNumber
 record-in-range r h =
     let a = first-none _ _ h in
     record { rows = rows-in-range _ (a .0); radii = radii-in-range _ (first-none _ _ (a .1) .0) }
-
--- the product of the two sizes is small
-pub cells-small : {n m : ℕ} → n ≤ maxRows → m ≤ maxRadii → n * m ≤ 8192
-unfolding maxRows maxRadii
-cells-small a b = mul-le-mul a b
 
 -- ---- the lengths
 

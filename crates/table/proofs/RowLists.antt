@@ -28,23 +28,37 @@ module _ {A : Type 0} where
   unfolding listOf
   replicate-listOf n a = replicate-from 0 n a
 
+  -- each element of a list with one of them replaced
+  pub set-at-each : (xs : List A) (i k : ℕ) (v d : A) → i < length xs → getD (set xs i v) k d ≡ cond (eqb k i) v (getD xs k d)
+  set-at-each xs i k v d l = go (eqb k i) refl
+    where
+      go : (b : Bool) → eqb k i ≡ b → getD (set xs i v) k d ≡ cond b v (getD xs k d)
+      go true q = rw (eqb-true k i q) (getD-set-same xs i v d l)
+      go false q = getD-set-other xs i k v d (eqb-false k i q)
+
   pub set-listOf : (n i : ℕ) (f : ℕ → A) (v : A) → i < n → set (listOf n f) i v ≡ listOf n (λ k. cond (eqb k i) v (f k))
   set-listOf n i f v h =
+      let long = length-listOf n f in
       ext-getD v (set (listOf n f) i v) (listOf n (λ k. cond (eqb k i) v (f k)))
-      (length-set (listOf n f) i v ∙ length-listOf n f ∙ sym (length-listOf n _))
+      (length-set (listOf n f) i v ∙ long ∙ sym (length-listOf n _))
       (λ k l.
-      let b : k < n = omega (arith, length-set (listOf n f) i v, length-listOf n f) in
-      at k b (eqb k i) refl ∙ sym (getD-listOf n (λ m. cond (eqb m i) v (f m)) v k b))
-    where
-      at : (k : ℕ) → k < n → (b : Bool) → eqb k i ≡ b → getD (set (listOf n f) i v) k v ≡ cond b v (f k)
-      at k l true e =
-          ap (λ (m : ℕ). getD (set (listOf n f) i v) m v) (eqb-true k i e)
-          ∙ getD-set-same (listOf n f) i v v (omega (arith, length-listOf n f))
-      at k l false e = getD-set-other (listOf n f) i k v v (eqb-false k i e) ∙ getD-listOf n f v k l
+      let b : k < n = omega (arith, length-set (listOf n f) i v, long) in
+      set-at-each (listOf n f) i k v v (rw long h)
+      ∙ ap (λ (x : A). cond (eqb k i) v x) (getD-listOf n f v k b)
+      ∙ sym (getD-listOf n (λ m. cond (eqb m i) v (f m)) v k b))
 
 -- ---- rows of m elements, one after the other
 
 module _ (m : ℕ) where
+  -- each row of a list with one of them replaced
+  pub put-at-each : (i k : ℕ) (part xs : List Float) → length part ≡ m → i * m + m ≤ length xs
+      → take m (drop (k * m) (put (i * m) part xs)) ≡ cond (eqb k i) part (take m (drop (k * m) xs))
+  put-at-each i k part xs e h = go (eqb k i) refl
+    where
+      go : (b : Bool) → eqb k i ≡ b → take m (drop (k * m) (put (i * m) part xs)) ≡ cond b part (take m (drop (k * m) xs))
+      go true q = rw (eqb-true k i q) (put-here (i * m) m part xs (omega arith) e)
+      go false q = put-other m i k part xs e h (eqb-false k i q)
+
   length-from-row : (j n : ℕ) (f : ℕ → List Float) → ((k : ℕ) → length (f k) ≡ m) → length (rowsFrom j n f) ≡ n * m
   unfolding rowsFrom
   length-from-row j zero f h = sym (zero-mul m)
@@ -87,14 +101,13 @@ module _ (m : ℕ) where
   put-rows n i f part h e l =
       rows-same n m (put (i * m) part (rowsFrom 0 n f)) (rowsFrom 0 n (λ k. cond (eqb k i) part (f k)))
       (length-put (i * m) part (rowsFrom 0 n f) (rw e within) ∙ length-rows n f h) (length-rows n _ new-long)
-      (λ k b. at k (eqb k i) refl b ∙ sym (row-of n k _ new-long b))
+      (λ k b.
+      put-at-each i k part (rowsFrom 0 n f) e within
+      ∙ ap (λ (x : List Float). cond (eqb k i) part x) (row-of n k f h b)
+      ∙ sym (row-of n k _ new-long b))
     where
       within : i * m + m ≤ length (rowsFrom 0 n f)
       within = rw (length-rows n f h) (row-within n m i l)
 
       new-long : (k : ℕ) → length (cond (eqb k i) part (f k)) ≡ m
       new-long k = chosen-long (eqb k i) part (f k) e (h k)
-
-      at : (k : ℕ) (b : Bool) → eqb k i ≡ b → k < n → take m (drop (k * m) (put (i * m) part (rowsFrom 0 n f))) ≡ cond b part (f k)
-      at k true q b = rw (eqb-true k i q) (put-here (i * m) m part (rowsFrom 0 n f) (omega (arith, within)) e)
-      at k false q b = put-other m i k part (rowsFrom 0 n f) e within (eqb-false k i q) ∙ row-of n k f h b

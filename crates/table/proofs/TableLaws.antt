@@ -3,12 +3,11 @@
 use mathlib.Core.Path.{_≡_, refl, sym, ap, ap₂, _∙_, fun-ext}
 use mathlib.Core.Bool.{Bool, true, false, cond}
 use mathlib.Core.List.{List}
-use Prim.Native.Nat.{ℕ, _+_, _*_, _≤_, _<_}
-use native.Mathlib.Omega.{arith}
-use borrow.Author.Tests.{eqb-true, eqb-false, eq-eqb}
+use Prim.Native.Nat.{ℕ, _*_, _<_}
+use borrow.Author.Tests.{eqb-true, eq-eqb}
 use lib.Dec.{eqb}
-use lib.ListN.{length, length-set, length-replicate, getD, set, take, drop, replicate}
-use lib.Seq.{ext-getD, getD-set-same, getD-set-other}
+use lib.ListN.{length, length-set, length-replicate, getD, set, replicate}
+use lib.Seq.{ext-getD}
 use lib.Ieee.{Float, nan}
 use Rattle.elementary.specs.Notation.{lit}
 use Rattle.elementary.specs.Lists.{listOf}
@@ -25,28 +24,11 @@ use Rattle.table.specs.Sets.{Rows, noRows, adding, rowsFrom, tableOf}
 use Rattle.table.specs.Laws.{TableRow, rowAt, builtRow, Accepted, TableLaws}
 use Rattle.table.specs.declared.parameters.Record.{Record}
 use Rattle.table.proofs.Refusals.{build-accepted, lengths-fit}
-use Rattle.table.proofs.Parts.{length-put, put-here, put-other, rows-same, row-within}
+use Rattle.table.proofs.Parts.{length-put, rows-same, row-within}
 use Rattle.table.proofs.RowLengths.{length-profile, length-cdf-row}
-use Rattle.table.proofs.RowLists.{replicate-listOf, set-listOf, chosen-long, length-rows, replicate-rows, put-rows}
+use Rattle.table.proofs.RowLists.{set-at-each, put-at-each, replicate-listOf, set-listOf, chosen-long, length-rows, replicate-rows, put-rows}
 
 -- ---- the equation for each row
-
--- an element, and a row, of a list with one of them replaced
-module _ {A : Type 0} where
-  set-at-each : (xs : List A) (i k : ℕ) (v d : A) → i < length xs → getD (set xs i v) k d ≡ cond (eqb k i) v (getD xs k d)
-  set-at-each xs i k v d l = go (eqb k i) refl
-    where
-      go : (b : Bool) → eqb k i ≡ b → getD (set xs i v) k d ≡ cond b v (getD xs k d)
-      go true q = rw (eqb-true k i q) (getD-set-same xs i v d l)
-      go false q = getD-set-other xs i k v d (eqb-false k i q)
-
-put-at-each : (m i k : ℕ) (part xs : List Float) → length part ≡ m → i * m + m ≤ length xs
-    → take m (drop (k * m) (put (i * m) part xs)) ≡ cond (eqb k i) part (take m (drop (k * m) xs))
-put-at-each m i k part xs e h = go (eqb k i) refl
-  where
-    go : (b : Bool) → eqb k i ≡ b → take m (drop (k * m) (put (i * m) part xs)) ≡ cond b part (take m (drop (k * m) xs))
-    go true q = rw (eqb-true k i q) (put-here (i * m) m part xs (omega arith) e)
-    go false q = put-other m i k part xs e h (eqb-false k i q)
 
 -- a choice of rows is a row of choices
 choice : (b : Bool) (s t : TableRow)

@@ -5,7 +5,6 @@ ghost use lib.ListN.{length};
 ghost use Rattle.interpolation.specs.Checks.{maxRows, maxRadii};
 ghost use Rattle.scattering.specs.Samples.{sampleLogs};
 ghost use Rattle.table.specs.Row as Row;
-ghost use Rattle.table.specs.Row.{put};
 use crate::parameters::Record;
 use elementary::PI;
 use interpolation::integral::integrate_catmull_rom;
@@ -49,8 +48,8 @@ pub fn build_row(
 ) -> f32
     requires { ⌜ (1 ≤ r .m) × (r .m ≤ maxRadii) × (i < maxRows) × (length (now «radius_samples») ≡ r .m) × (i * r .m + r .m ≤ length (now profile)) × (length (now «profile_cdf») ≡ length (now profile)) ⌝ }
     ensures { λ y. ⌜ (y ≡ Row.effectiveAlbedo r rho (now («radius_samples» .entry)))
-        × (now (profile .exit) ≡ put (i * r .m) (Row.profileRow r rho (now («radius_samples» .entry))) (now (profile .entry)))
-        × (now («profile_cdf» .exit) ≡ put (i * r .m) (Row.cdfRow r rho (now («radius_samples» .entry))) (now («profile_cdf» .entry))) ⌝ }
+        × (now (profile .exit) ≡ Row.put (i * r .m) (Row.profileRow r rho (now («radius_samples» .entry))) (now (profile .entry)))
+        × (now («profile_cdf» .exit) ≡ Row.put (i * r .m) (Row.cdfRow r rho (now («radius_samples» .entry))) (now («profile_cdf» .entry))) ⌝ }
 {
     let m = r.m;
     let start = i * m;

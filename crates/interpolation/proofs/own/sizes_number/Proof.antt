@@ -1,20 +1,17 @@
 -- `interpolation::own::sizes_number` meets its contract. The product is computed once both sizes are in range, so it cannot overflow. Assumes nothing.
 use borrow.Author.Needs.{needs}
 use Prim.Native.Nat.{_*_, _≤_}
-use native.Mathlib.Nat.{mul-le-mul}
 use native.Mathlib.Omega.{arith}
-use Rattle.interpolation.specs.Checks.{maxRows, maxRadii}
 use Rattle.interpolation.specs.Own.{sizesNumber}
 use Rattle.answers.proofs.Refusals.{first-here, first-next, first-last, nothing}
-use Rattle.interpolation.proofs.Refusals.{rows-in-range, radii-in-range}
+use Rattle.interpolation.proofs.Refusals.{rows-in-range, radii-in-range, cells-small}
 use Rattle.interpolation.proofs.own.sizes_number.Statement.{statement}
 use Rattle.interpolation.proofs.own.sizes_number.Tie as tie
 
 product : (c : tie.Else2) → let s = c .before .before .before .before in s .args .n * s .args .m ≤ 8192
-unfolding maxRows maxRadii
 product c =
     let rows = c .before .before in
-    mul-le-mul (rows-in-range _ (nothing _ _ (rows .before .check-rows .ensures) (rows .if1 .left)) .1) (radii-in-range _ (nothing _ _ (c .before .check-radii .ensures) (c .if2 .left)) .1)
+    cells-small (rows-in-range _ (nothing _ _ (rows .before .check-rows .ensures) (rows .if1 .left)) .1) (radii-in-range _ (nothing _ _ (c .before .check-radii .ensures) (c .if2 .left)) .1)
 
 returns : tie.Need-returns
 unfolding sizesNumber

@@ -1,7 +1,7 @@
 -- `table::checks::check_lengths` meets its contract. Both sizes are in range, so their product is small. Assumes nothing.
 use native.Mathlib.Omega.{arith}
+use Rattle.interpolation.proofs.Refusals.{cells-small}
 use Rattle.table.specs.Checks.{check5}
-use Rattle.table.proofs.Refusals.{cells-small}
 use Rattle.table.proofs.checks.check_lengths.Statement.{statement}
 use Rattle.table.proofs.checks.check_lengths.Tie as tie
 
