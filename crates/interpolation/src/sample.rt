@@ -104,7 +104,7 @@ fn segment_at(
 }
 
 // The draw from the rows that the weights in the interval i blend.
-fn draw(
+pub fn draw(
     nodes: &[f32],
     values: &[f32],
     cdf: &[f32],

@@ -1,0 +1,16 @@
+-- The laws of queries.
+
+-- weights and rows
+pub mod Products
+pub mod AcceptedQueries
+pub mod NeededRows
+pub mod Marks
+pub mod Channels
+pub mod ThreeChannels
+pub mod OneChannel
+-- the calls
+pub mod Answering
+pub mod MissingRows
+pub mod Same
+-- all together
+pub mod QueryLaws
