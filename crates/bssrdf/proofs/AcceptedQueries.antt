@@ -14,11 +14,14 @@ use Rattle.elementary.specs.Notation.{_⊘_, lit}
 use Rattle.answers.proofs.Refusals.{first-none}
 use Rattle.interpolation.specs.Nodes.{finite}
 use Rattle.interpolation.specs.Checks.{maxRows, maxRadii}
-use Rattle.interpolation.specs.Weights.{weightAt}
-use Rattle.interpolation.specs.Laws.{Bounded}
+use Rattle.interpolation.specs.Interval.{nodeInterval}
+use Rattle.interpolation.specs.Weights.{weightAt, fourAt}
+use Rattle.interpolation.specs.Laws.{Bounded, Reach}
 use Rattle.interpolation.specs.declared.weights.Four.{Four}
 use Rattle.interpolation.specs.declared.weights.Weights.the-variants.{At}
+use Rattle.interpolation.proofs.Bisection.{node-bound}
 use Rattle.interpolation.proofs.Bounded.{weights-bounded}
+use Rattle.interpolation.proofs.Reach.{reach}
 use Rattle.scattering.specs.Spectrum.{channel}
 use Rattle.scattering.specs.declared.spectrum.RGBEnum.{RGBEnum}
 use Rattle.scattering.specs.declared.spectrum.RGBEnum.the-variants.{Red, Green, Blue}
@@ -60,6 +63,10 @@ module _ (r : Record) (t : Lists) (c : Coefficients) (h : queryNumber r t c ≡ 
 
   pub two-radii : 2 ≤ length (t .radiusSamples)
   two-radii = let a = query-accepted .sizes in omega arith
+
+  -- each nonzero weight of a value among the albedo nodes has its row
+  pub rho-reach : (x : Float) → let i = nodeInterval (t .rhoSamples) x in Reach (fourAt (t .rhoSamples) x i) i (r .n)
+  rho-reach x = rw (← query-accepted .sizes .fits .rho-fits) (reach (t .rhoSamples) x _ (omega (arith, two-rows, node-bound (t .rhoSamples) x)))
 
   -- and not many, so that an interval is a small number
   pub few-rows : length (t .rhoSamples) ≤ 0x8000_0000

@@ -2,6 +2,7 @@
 
 -- weights and rows
 pub mod Products
+pub mod Cells
 pub mod AcceptedQueries
 pub mod NeededRows
 pub mod Marks

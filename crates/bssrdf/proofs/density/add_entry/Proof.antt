@@ -1,25 +1,13 @@
 -- `bssrdf::density::add_entry` meets its contract. Where the radius weight is not zero, the radius exists. Assumes nothing.
-use mathlib.Core.Path.{_≡_}
-use Prim.Native.Nat.{ℕ, _-_, _+_, _*_, _≤_, _<_}
 use native.Mathlib.Omega.{arith}
 use lib.ListN.{length}
-use Rattle.interpolation.proofs.Rows.{entry-below}
 use Rattle.bssrdf.specs.Density.{addTerm}
+use Rattle.bssrdf.proofs.Cells.{Cell, cell}
 use Rattle.bssrdf.proofs.density.add_entry.Statement.{statement}
 use Rattle.bssrdf.proofs.density.add_entry.Tie as tie
 
-record Inside (size m row col : ℕ) : Type 0 where
-  first-row : 1 ≤ row
-  first-col : 1 ≤ col
-  below : (row - 1) * m + (col - 1) < row * m
-  whole : row * m ≤ size
-
-inside : (c : tie.Else1) → let s = c .before in Inside (length (s .args .profile .now)) (s .args .m) (s .args .row) (s .args .col)
-inside c =
-    let s = c .before in
-    let row = s .pre .0 in
-    let col = s .pre .1 (c .if1 .left) in
-    record { first-row = row .0; first-col = col .0; below = entry-below (s .args .row) (s .args .col - 1) (s .args .m) (row .0) (omega (arith, col)); whole = row .1 }
+inside : (c : tie.Else1) → let s = c .before in Cell (length (s .args .profile .now)) (s .args .m) (s .args .row) (s .args .col)
+inside c = let s = c .before in cell _ _ _ _ (s .pre .0) (s .pre .1 (c .if1 .left))
 
 returns : tie.Need-returns
 unfolding addTerm

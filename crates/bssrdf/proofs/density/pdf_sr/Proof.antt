@@ -25,7 +25,7 @@ use Rattle.bssrdf.specs.Needed.{allMarked, weightedRows, pdfRows}
 use Rattle.bssrdf.specs.Checks.{queryNumber}
 use Rattle.bssrdf.specs.Density as Spec
 use Rattle.bssrdf.specs.declared.coefficients.OpticalRadius.{OpticalRadius}
-use Rattle.bssrdf.proofs.AcceptedQueries.{query-accepted, two-rows, two-radii, few-rows, few-radii}
+use Rattle.bssrdf.proofs.AcceptedQueries.{query-accepted, two-rows, two-radii, rho-reach, few-rows, few-radii}
 use Rattle.bssrdf.proofs.Answering.{refused-before, row-missing, none-left, not-true, not-false}
 use Rattle.bssrdf.proofs.OneChannel.{rows-inside, rows-outside, density-inside, density-outside}
 use Rattle.bssrdf.proofs.ThreeChannels.{interval-in}
@@ -84,15 +84,13 @@ returns-2 c =
 in-rows : (c : tie.After-find-interval) → c .find-interval .result + 2 ≤ length (start (c .before .before .before .before .before .before .before) .args .rho-samples .now)
 in-rows c = rw (c .find-interval .ensures) (interval-in _ _ (two-albedos (c .before .before .before .before .before .before .before)))
 
-rho-reach : (c : tie.After-four-at) → Reach (c .four-at .result) (c .before .find-interval .result) (start (c .before .before .before .before .before .before .before .before) .args .r .n)
-rho-reach c =
-    let e = c .before .before .before .before .before .before .before .before in
-    rw (c .four-at .ensures, ← query-accepted _ (table (start e)) _ (accepted e) .sizes .fits .rho-fits) (reach _ _ _ (in-rows (c .before)))
+rows-reach : (c : tie.After-four-at) → Reach (c .four-at .result) (c .before .find-interval .result) (start (c .before .before .before .before .before .before .before .before) .args .r .n)
+rows-reach c = rw (c .four-at .ensures, c .before .find-interval .ensures) (rho-reach _ (table (start (c .before .before .before .before .before .before .before .before))) _ (accepted (c .before .before .before .before .before .before .before .before)) _)
 
 are-marked-requires : tie.Need-are-marked-requires
 are-marked-requires c κs =
     let e = c .before .before .before .before .before .before .before .before in
-    (rw (query-accepted _ (table (start e)) _ (accepted e) .sizes .fits .marks-fit) (rho-reach c), omega (arith, in-rows (c .before), few-rows _ _ _ (accepted e)))
+    (rw (query-accepted _ (table (start e)) _ (accepted e) .sizes .fits .marks-fit) (rows-reach c), omega (arith, in-rows (c .before), few-rows _ _ _ (accepted e)))
 
 -- the rows asked for are those that the query needs
 marked : (c : tie.After-are-marked) → let s = start (c .before .before .before .before .before .before .before .before .before) in c .are-marked .result ≡ allMarked (s .args .marks .now) (pdfRows (table s) (s .args .ch) (s .args .c) (s .args .x))
@@ -122,7 +120,7 @@ inside-density-requires c κs =
     let e = c .before .before .before .before .before .before .before .before .before .before .before .before in
     let s = start e in
     let fits = query-accepted _ (table s) _ (accepted e) .sizes .fits in
-    let rows = rho-reach (c .before .before .before .before) in (
+    let rows = rows-reach (c .before .before .before .before) in (
       (
         in-table _ (s .args .r .n) (s .args .r .m) _ _ rows (fits .profile-fits),
         rw (c .four-at2 .ensures, ← fits .radius-fits) (reach _ _ _ (in-radii (c .before))),

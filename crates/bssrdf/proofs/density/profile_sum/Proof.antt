@@ -3,10 +3,10 @@ use borrow.Author.Needs.{needs}
 use mathlib.Core.Path.{_≡_, ap, _∙_}
 use mathlib.Core.Bool.{cond}
 use mathlib.Core.List.{List}
-use Prim.Native.Nat.{ℕ, _+_, _-_, _*_, _≤_}
-use native.Mathlib.Nat.{le-trans, mul-le-mul-right, add-zero}
+use Prim.Native.Nat.{ℕ, _+_, _-_, _*_}
+use native.Mathlib.Nat.{add-zero}
 use native.Mathlib.Omega.{arith}
-use lib.ListN.{length, getD}
+use lib.ListN.{getD}
 use lib.Ieee.{Float, nan, eq}
 use Rattle.elementary.specs.Notation.{lit}
 use Rattle.interpolation.specs.Weights.{weightAt, offsetOf}
@@ -15,23 +15,20 @@ use Rattle.interpolation.specs.declared.weights.Four.{Four}
 use Rattle.interpolation.proofs.Rows.{row-is}
 use Rattle.bssrdf.specs.Density.{profileSum, addEntries, addEntry, addTerm}
 use Rattle.bssrdf.specs.Radiance.{evalProfile, overFour}
+use Rattle.bssrdf.proofs.Cells.{row-ends}
 use Rattle.bssrdf.proofs.density.profile_sum.Statement.{statement}
 use Rattle.bssrdf.proofs.density.profile_sum.Tie as tie
-
--- a row up to that of weight 2, counted from 1, ends within the profile
-within : (c : tie.Start) (k : ℕ) → k ≤ 2 → (c .args .i + k) * c .args .m ≤ length (c .args .profile .now)
-within c k l = le-trans (mul-le-mul-right (c .args .m) (omega arith)) (c .pre .0 .0 .inside)
 
 add-entries-requires : tie.Need-add-entries-requires
 add-entries-requires c κs =
     let start = c .before in
     let read = start .pre .0 in
-    ((read .1, start .pre .1 .1), λ w. (read .0 .first w, rw add-zero at (within start 0 (omega arith))))
+    ((read .1, start .pre .1 .1), λ w. (read .0 .first w, rw add-zero at (row-ends _ _ _ _ (start .pre .0 .0) 0 (omega arith))))
 
 add-entries-requires-2 : tie.Need-add-entries-requires-2
 add-entries-requires-2 c κs =
     let start = c .before .before in
-    ((start .pre .0 .1, start .pre .1 .1), λ w. (omega arith, within start 1 (omega arith)))
+    ((start .pre .0 .1, start .pre .1 .1), λ w. (omega arith, row-ends _ _ _ _ (start .pre .0 .0) 1 (omega arith)))
 
 add-entries-requires-3 : tie.Need-add-entries-requires-3
 add-entries-requires-3 c κs =

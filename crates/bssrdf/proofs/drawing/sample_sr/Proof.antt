@@ -18,7 +18,6 @@ use Rattle.interpolation.specs.Laws.{Reach}
 use Rattle.interpolation.specs.Sample.{drawFrom}
 use Rattle.interpolation.specs.declared.weights.Weights.the-variants.{At}
 use Rattle.interpolation.specs.declared.sample.Sample.the-variants as Sample
-use Rattle.interpolation.proofs.Reach.{reach}
 use Rattle.interpolation.proofs.Rows.{in-table}
 use Rattle.scattering.specs.Spectrum.{channel}
 use Rattle.scattering.specs.declared.spectrum.Spectrum.{Spectrum}
@@ -27,7 +26,7 @@ use Rattle.bssrdf.specs.Coefficients as Coefficients
 use Rattle.bssrdf.specs.Needed.{allMarked, weightedRows, sampleRows}
 use Rattle.bssrdf.specs.Checks.{queryNumber, drawNumber}
 use Rattle.bssrdf.specs.Drawing as Spec
-use Rattle.bssrdf.proofs.AcceptedQueries.{query-accepted, two-rows, two-radii, few-rows}
+use Rattle.bssrdf.proofs.AcceptedQueries.{query-accepted, two-rows, two-radii, rho-reach, few-rows}
 use Rattle.bssrdf.proofs.Answering.{refused-before, row-missing, none-left, not-true, not-false}
 use Rattle.bssrdf.proofs.OneChannel.{clear-rows, clear-drawn, drawn-rows, drawn-inside, drawn-outside}
 use Rattle.bssrdf.proofs.ThreeChannels.{interval-in}
@@ -98,15 +97,13 @@ returns-3 c =
 in-rows : (c : tie.After-find-interval) → c .find-interval .result + 2 ≤ length (start (c .before .before .before .before .before .before .before) .args .rho-samples .now)
 in-rows c = rw (c .find-interval .ensures) (interval-in _ _ (two-albedos (c .before .before .before .before .before .before .before)))
 
-rho-reach : (c : tie.After-four-at) → Reach (c .four-at .result) (c .before .find-interval .result) (start (c .before .before .before .before .before .before .before .before) .args .r .n)
-rho-reach c =
-    let e = c .before .before .before .before .before .before .before .before in
-    rw (c .four-at .ensures, ← query-accepted _ (table (start e)) _ (accepted e) .sizes .fits .rho-fits) (reach _ _ _ (in-rows (c .before)))
+rows-reach : (c : tie.After-four-at) → Reach (c .four-at .result) (c .before .find-interval .result) (start (c .before .before .before .before .before .before .before .before) .args .r .n)
+rows-reach c = rw (c .four-at .ensures, c .before .find-interval .ensures) (rho-reach _ (table (start (c .before .before .before .before .before .before .before .before))) _ (accepted (c .before .before .before .before .before .before .before .before)) _)
 
 are-marked-requires : tie.Need-are-marked-requires
 are-marked-requires c κs =
     let e = c .before .before .before .before .before .before .before .before in
-    (rw (query-accepted _ (table (start e)) _ (accepted e) .sizes .fits .marks-fit) (rho-reach c), omega (arith, in-rows (c .before), few-rows _ _ _ (accepted e)))
+    (rw (query-accepted _ (table (start e)) _ (accepted e) .sizes .fits .marks-fit) (rows-reach c), omega (arith, in-rows (c .before), few-rows _ _ _ (accepted e)))
 
 -- the rows asked for are those that the query needs
 marked : (c : tie.After-are-marked) → let s = start (c .before .before .before .before .before .before .before .before .before) in c .are-marked .result ≡ allMarked (s .args .marks .now) (sampleRows (table s) (s .args .ch) (s .args .c))
@@ -133,7 +130,7 @@ draw-requires c κs =
     let e = c .before .before .before .before .before .before .before .before .before .before in
     let s = start e in
     let fits = query-accepted _ (table s) _ (accepted e) .sizes .fits in
-    let rows = rho-reach (c .before .before) in (
+    let rows = rows-reach (c .before .before) in (
       (two-radii _ _ _ (accepted e), omega (arith, in-rows (c .before .before .before), few-rows _ _ _ (accepted e))),
       (
         rw (fits .radius-fits) (in-table _ (s .args .r .n) (s .args .r .m) _ _ rows (fits .profile-fits)),

@@ -1,29 +1,24 @@
 -- `bssrdf::radiance::tensor` meets its contract: the row of weight k, counted from 1, is i + k. Assumes nothing.
 use borrow.Author.Needs.{needs}
-use Prim.Native.Nat.{ℕ, _+_, _*_, _≤_}
-use native.Mathlib.Nat.{le-trans, mul-le-mul-right, add-zero}
+use native.Mathlib.Nat.{add-zero}
 use native.Mathlib.Omega.{arith}
-use lib.ListN.{length}
 use Rattle.interpolation.proofs.Rows.{row-is}
 use Rattle.bssrdf.specs.Radiance.{tensor, addCell, evalProfile}
+use Rattle.bssrdf.proofs.Cells.{row-ends}
 use Rattle.bssrdf.proofs.radiance.tensor.Statement.{statement}
 use Rattle.bssrdf.proofs.radiance.tensor.Tie as tie
-
--- a row up to that of weight 2, counted from 1, ends within the profile
-within : (c : tie.Start) (k : ℕ) → k ≤ 2 → (c .args .i + k) * c .args .m ≤ length (c .args .profile .now)
-within c k l = le-trans (mul-le-mul-right (c .args .m) (omega arith)) (c .pre .0 .rows .inside)
 
 add-row-requires : tie.Need-add-row-requires
 add-row-requires c κs =
     let start = c .before in
     let read = start .pre .0 in
-    ((read .rho-bounded .w0 .is-finite, read .radius-bounded, read .radii, start .pre .1 .1), λ w. (read .rows .first w, rw add-zero at (within start 0 (omega arith))))
+    ((read .rho-bounded .w0 .is-finite, read .radius-bounded, read .radii, start .pre .1 .1), λ w. (read .rows .first w, rw add-zero at (row-ends _ _ _ _ (start .pre .0 .rows) 0 (omega arith))))
 
 add-row-requires-2 : tie.Need-add-row-requires-2
 add-row-requires-2 c κs =
     let start = c .before .before in
     let read = start .pre .0 in
-    ((read .rho-bounded .w1 .is-finite, read .radius-bounded, read .radii, start .pre .1 .1), λ w. (omega arith, within start 1 (omega arith)))
+    ((read .rho-bounded .w1 .is-finite, read .radius-bounded, read .radii, start .pre .1 .1), λ w. (omega arith, row-ends _ _ _ _ (start .pre .0 .rows) 1 (omega arith)))
 
 add-row-requires-3 : tie.Need-add-row-requires-3
 add-row-requires-3 c κs =
