@@ -6,12 +6,12 @@ use mathlib.Core.List.{List}
 use Prim.Native.Nat.{ℕ, _*_, _<_}
 use borrow.Author.Tests.{eqb-true, eq-eqb}
 use lib.Dec.{eqb}
-use lib.ListN.{length, length-set, length-replicate, getD, set, replicate}
+use lib.ListN.{length, length-set, length-replicate, getD, set, take, drop, replicate}
 use lib.Seq.{ext-getD}
 use lib.Ieee.{Float, nan}
 use Rattle.elementary.specs.Notation.{lit}
 use Rattle.elementary.specs.Lists.{listOf}
-use Rattle.elementary.proofs.Filled.{length-listOf}
+use Rattle.elementary.proofs.Filled.{length-listOf, getD-listOf}
 use Rattle.answers.proofs.Refusals.{keeps}
 use Rattle.table.specs.Parameters.{Lists, lists, lengthsOf}
 use Rattle.table.specs.Checks.{check5, startNumber, buildNumber}
@@ -21,12 +21,12 @@ use Rattle.table.specs.Row.{put}
 use Rattle.table.specs.Starting.{started, start}
 use Rattle.table.specs.Building.{built, build}
 use Rattle.table.specs.Sets.{Rows, noRows, adding, rowsFrom, tableOf}
-use Rattle.table.specs.Laws.{TableRow, rowAt, builtRow, Accepted, TableLaws}
+use Rattle.table.specs.Laws.{TableRow, rowAt, builtRow, emptyRow, Accepted, TableLaws}
 use Rattle.table.specs.declared.parameters.Record.{Record}
 use Rattle.table.proofs.Refusals.{build-accepted, lengths-fit}
 use Rattle.table.proofs.Parts.{length-put, rows-same, row-within}
 use Rattle.table.proofs.RowLengths.{length-profile, length-cdf-row}
-use Rattle.table.proofs.RowLists.{set-at-each, put-at-each, replicate-listOf, set-listOf, chosen-long, length-rows, replicate-rows, put-rows}
+use Rattle.table.proofs.RowLists.{set-at-each, put-at-each, replicate-listOf, set-listOf, chosen-long, length-rows, row-of, replicate-rows, put-rows}
 
 -- ---- the equation for each row
 
@@ -157,6 +157,21 @@ built-on r S i l = λ x. record {
   marks = elements-added (r .n) i S (λ k. 1) 0 l x;
 }
 
+row-chosen : (r : Record) (S : Rows) (f : ℕ → List Float) → ((k : ℕ) → length (f k) ≡ r .m) → (k : ℕ) → k < r .n
+    → take (r .m) (drop (k * r .m) (rowsFrom 0 (r .n) (λ j. cond (S j) (f j) (replicate (r .m) (lit 0))))) ≡ cond (S k) (f k) (replicate (r .m) (lit 0))
+row-chosen r S f h k l = row-of (r .m) (r .n) k (λ j. cond (S j) (f j) (replicate (r .m) (lit 0))) (chosen r S f h) l
+
+row-of-table : (r : Record) (S : Rows) (k : ℕ) → k < r .n → rowAt r (tableOf r S) k ≡ cond (S k) (builtRow r k (rhoSamples r) (radiusSamples r)) (emptyRow r)
+unfolding rowAt tableOf builtRow emptyRow
+row-of-table r S k l =
+    (λ x. record {
+      profile = row-chosen r S (profileOf r) (profile-long r) k l x;
+      cdf = row-chosen r S (cdfOf r) (cdf-long r) k l x;
+      albedo = getD-listOf (r .n) (λ j. cond (S j) (effectiveAlbedo r (getD (rhoSamples r) j nan) (radiusSamples r)) (lit 0)) nan k l x;
+      mark = getD-listOf {A = ℕ} (r .n) (λ j. cond (S j) 1 0) 0 k l x;
+    })
+    ∙ choice (S k) (builtRow r k (rhoSamples r) (radiusSamples r)) (emptyRow r)
+
 lengths-of-table : (r : Record) (S : Rows) → check5 r (lengthsOf (tableOf r S)) ≡ 0
 unfolding tableOf check5
 lengths-of-table r S =
@@ -195,6 +210,7 @@ table-laws = record {
   nodes-decide = nodes-decide;
   started-is = started-is;
   built-on = built-on;
+  row-of-table = row-of-table;
   lengths-of-table = lengths-of-table;
   start-refused = start-refused;
   build-refused = build-refused;

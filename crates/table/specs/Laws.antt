@@ -4,10 +4,12 @@ use mathlib.Core.Path.{_≡_}
 use mathlib.Core.Bool.{cond}
 use mathlib.Core.List.{List}
 use lib.Dec.{eqb}
-use lib.ListN.{getD, take, drop}
+use lib.ListN.{getD, take, drop, replicate}
 use lib.Ieee.{Float, nan}
+use Rattle.elementary.specs.Notation.{lit}
 use Rattle.table.specs.Parameters.{Lists, lengthsOf}
 use Rattle.table.specs.Checks.{check5, startNumber, buildNumber}
+use Rattle.table.specs.Nodes.{rhoSamples, radiusSamples}
 use Rattle.table.specs.Row.{profileRow, cdfRow, effectiveAlbedo}
 use Rattle.table.specs.Starting.{started, start}
 use Rattle.table.specs.Building.{built, build}
@@ -36,6 +38,10 @@ builtRow r i rhoSamples radiusSamples =
     let rho = getD rhoSamples i nan in
     record { profile = profileRow r rho radiusSamples; cdf = cdfRow r rho radiusSamples; albedo = effectiveAlbedo r rho radiusSamples; mark = 1 }
 
+-- a row that is not built, as starting gives it: +0 in each place, and mark 0
+unfoldable pub emptyRow : Record → TableRow
+emptyRow r = record { profile = replicate (r .m) (lit 0); cdf = replicate (r .m) (lit 0); albedo = lit 0; mark = 0 }
+
 -- no check of building refuses
 abbrev pub Accepted : Record → ℕ → Lists → Type 0
 Accepted r i t = buildNumber r i (t .rhoSamples) (t .radiusSamples) (lengthsOf t) ≡ 0
@@ -58,6 +64,8 @@ pub record TableLaws : Type 0 where
   -- a started table is the table of no rows, and building a row on a set's table gives the table of the set with that row
   pub started-is : (r : Record) → started r ≡ tableOf r noRows
   pub built-on : (r : Record) (S : Rows) (i : ℕ) → i < r .n → built r i (tableOf r S) ≡ tableOf r (adding i S)
+  -- the equation for each row of a set's table: a row of the set is as building gives it on the nodes of starting, and every other is empty
+  pub row-of-table : (r : Record) (S : Rows) (k : ℕ) → k < r .n → rowAt r (tableOf r S) k ≡ cond (S k) (builtRow r k (rhoSamples r) (radiusSamples r)) (emptyRow r)
   -- a set's table has the record's lengths
   pub lengths-of-table : (r : Record) (S : Rows) → check5 r (lengthsOf (tableOf r S)) ≡ 0
   -- a refused call leaves every list as it was
