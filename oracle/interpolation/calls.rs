@@ -1,7 +1,8 @@
 //! Document 01's calls on a caller's own lists: its checks, in its order, around the functions of rs_pbrt.
+use crate::rounds;
+pub use crate::rounds::MOST_ROUNDS;
 use crate::stand_ins::StandIns;
-use std::cell::Cell;
-use std::panic::{catch_unwind, resume_unwind, AssertUnwindSafe};
+use crate::table::in_order;
 
 /// What cut.rs wrote.
 #[allow(dead_code, clippy::all)]
@@ -11,25 +12,9 @@ mod reference {
 
 pub const MOST_ROWS: usize = 128;
 pub const MOST_RADII: usize = 64;
-pub const MOST_ROUNDS: u32 = 1000;
-
-thread_local! {
-    static ROUNDS: Cell<u32> = const { Cell::new(0) };
-    static ALLOWANCE: Cell<u32> = const { Cell::new(0) };
-}
-
-/// What is thrown when a draw wants a round more than it is allowed.
-struct UsedUp;
-
 impl StandIns for f32 {
-    /// The absolute value. The draw takes it once in each round, so the rounds are counted here.
     fn stand_in_abs(self) -> f32 {
-        let rounds = ROUNDS.get() + 1;
-        if rounds > ALLOWANCE.get() {
-            resume_unwind(Box::new(UsedUp));
-        }
-        ROUNDS.set(rounds);
-        self.abs()
+        rounds::counted_abs(self)
     }
 }
 
@@ -48,12 +33,6 @@ pub enum Sample {
     Refused(u32),
     Outside,
     At { position: f32, value: f32, density: f32, rounds: u32 },
-}
-
-fn in_order(nodes: &[f32]) -> bool {
-    nodes.iter().all(|x| x.is_finite())
-        && nodes.windows(2).all(|pair| pair[0] < pair[1])
-        && (nodes[nodes.len() - 1] - nodes[0]).is_finite()
 }
 
 /// `catmull_rom_weights`, with none where it says false.
@@ -118,20 +97,16 @@ pub fn sample_2d(nodes1: &[f32], nodes2: &[f32], values: &[f32], cdf: &[f32], al
 
 /// `sample_catmull_rom_2d`, stopped when the allowance is used up.
 fn draw(nodes1: &[f32], nodes2: &[f32], values: &[f32], cdf: &[f32], alpha: f32, u: f32, allowance: u32) -> Sample {
-    ROUNDS.set(0);
-    ALLOWANCE.set(allowance);
     let (mut value, mut density) = (0.0, 0.0);
-    let drawn = catch_unwind(AssertUnwindSafe(|| {
+    let drawn = rounds::within(allowance, || {
         reference::sample_catmull_rom_2d(nodes1, nodes2, values, cdf, alpha, u, Some(&mut value), Some(&mut density))
-    }));
-    let rounds = ROUNDS.get();
+    });
     match drawn {
-        Ok(position) if offset_and_weights(nodes1, alpha).is_none() => {
+        Some((position, rounds)) if offset_and_weights(nodes1, alpha).is_none() => {
             assert!(position.to_bits() == 0 && rounds == 0);
             Sample::Outside
         }
-        Ok(position) => Sample::At { position, value, density, rounds },
-        Err(thrown) if thrown.is::<UsedUp>() => Sample::Refused(13),
-        Err(thrown) => resume_unwind(thrown),
+        Some((position, rounds)) => Sample::At { position, value, density, rounds },
+        None => Sample::Refused(13),
     }
 }

@@ -5,24 +5,19 @@
 #[path = "../shared/cutting.rs"]
 mod cutting;
 
-use cutting::{arguments, float_type, function, route, source, write};
+use cutting::{arguments, drawing, float_type, function, source, write};
 
 fn main() {
     let [sources, output] = arguments();
     let pbrt = source(&sources, "pbrt");
     let interpolation = source(&sources, "interpolation");
-
-    let mut drawing = function(&interpolation, "sample_catmull_rom_2d");
-    drawing = route(&drawing, 1, ")", ".sqrt()", ".stand_in_root()");
-    drawing = route(&drawing, 1, "(0.0 as Float)", ".max(", ".stand_in_max(");
-    drawing = route(&drawing, 1, "(f_hat - u)", ".abs()", ".stand_in_abs()");
     let items = [
         float_type(&pbrt),
         function(&pbrt, "clamp_t"),
         function(&pbrt, "find_interval"),
         function(&interpolation, "catmull_rom_weights"),
         function(&interpolation, "integrate_catmull_rom"),
-        drawing,
+        drawing(&interpolation),
     ];
     let known = ["unwrap", "first", "last", "len", "iter", "enumerate", "stand_in_root", "stand_in_max", "stand_in_abs"];
     write(&output, "use super::StandIns;\n", &items, &known);

@@ -15,6 +15,8 @@ mod cases;
 mod lists;
 #[path = "../shared/numbers.rs"]
 mod numbers;
+#[path = "../shared/rounds.rs"]
+mod rounds;
 #[path = "../shared/stand_ins.rs"]
 mod stand_ins;
 #[path = "../shared/table.rs"]

@@ -5,17 +5,11 @@
 #[path = "../shared/cutting.rs"]
 mod cutting;
 
-use cutting::{arguments, float_type, function, item, line, method, route, routed, source, write};
+use cutting::{arguments, float_type, function, item, line, methods, route, routed, source, write};
 
 const HEAD: &str = "use super::StandIns;
 use std::ops::{Add, Index, Mul};
 ";
-
-/// Methods, put into an implementation again.
-fn methods(text: &str, of: &str, names: &[&str]) -> String {
-    let all: Vec<String> = names.iter().map(|name| method(text, of, name)).collect();
-    format!("impl {} {{\n{}}}\n", of, all.concat())
-}
 
 fn main() {
     let [sources, output] = arguments();

@@ -2,6 +2,10 @@
 set -e
 out=target/oracle/$name
 mkdir -p "$out"
+usage() {
+    sed -n '2,/^name=/s/^# //p' "oracle/$name/run"
+    exit 2
+}
 # build PROGRAM [FLAGS]
 build() {
     "${RUSTC:-rustc}" --edition 2021 -O -o "$out/cut" "oracle/$name/cut.rs"
@@ -18,6 +22,11 @@ show() {
         echo "$file: $(sed -n "${line}p" "$out/$file" | cut -c1-2000)"
     done
 }
+# Not every NAME has both programs.
+case "$1" in
+bench) [ -f "oracle/$name/bench.rs" ] || usage ;;
+*) [ -f "oracle/$name/oracle.rs" ] || usage ;;
+esac
 case "$1 $#" in
 "vectors 1")
     build oracle
@@ -41,7 +50,6 @@ case "$1 $#" in
     "$out/bench"
     ;;
 *)
-    sed -n '2,6s/^# //p' "oracle/$name/run"
-    exit 2
+    usage
     ;;
 esac

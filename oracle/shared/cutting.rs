@@ -61,6 +61,12 @@ pub fn method(text: &str, of: &str, name: &str) -> String {
     block(&item(text, &format!("impl {}", of)), "    ", &format!("pub fn {}", name))
 }
 
+/// Methods, put into an implementation again.
+pub fn methods(text: &str, of: &str, names: &[&str]) -> String {
+    let all: Vec<String> = names.iter().map(|name| method(text, of, name)).collect();
+    format!("impl {} {{\n{}}}\n", of, all.concat())
+}
+
 /// A constant or a type that takes one line.
 pub fn line(text: &str, beginning: &str) -> String {
     let lines: Vec<&str> = text.lines().filter(|line| line.starts_with(beginning)).collect();
@@ -95,6 +101,12 @@ pub fn routed(text: String, roots: usize, exps: usize, lns: usize, maxima: usize
     let text = route(&text, exps, ")", ".exp()", ".stand_in_exp()");
     let text = route(&text, lns, ")", ".ln()", ".stand_in_ln()");
     route(&text, maxima, "(0.0 as Float)", ".max(", ".stand_in_max(")
+}
+
+/// The drawing function, with three of its calls sent to stand-ins: the square root, the maximum with 0 and the absolute value.
+pub fn drawing(interpolation: &str) -> String {
+    let text = routed(function(interpolation, "sample_catmull_rom_2d"), 1, 0, 0, 1);
+    route(&text, 1, "(f_hat - u)", ".abs()", ".stand_in_abs()")
 }
 
 /// A method that is not among the known ones, stand-ins included, would be one that nobody has looked at.

@@ -1,0 +1,83 @@
+//! Document 01's plain tally: fed an accepted start's record and the arguments of later calls, it keeps that record and a set of row
+//! numbers, and answers by the set's table. It never sees an answer, a lent list or a mark.
+use crate::calls::{self, Coefficients, Lists, Outcome, Record};
+use crate::table::{albedos, radii};
+use std::collections::{BTreeMap, BTreeSet};
+
+/// The set's table.
+struct Table {
+    floats: [Vec<f32>; 5],
+    marks: Vec<u8>,
+}
+
+impl Table {
+    fn lists(&mut self) -> Lists<'_> {
+        let [rho_samples, radius_samples, profile, rho_eff, profile_cdf] = &mut self.floats;
+        Lists { rho_samples, radius_samples, profile, rho_eff, profile_cdf, marks: &mut self.marks }
+    }
+}
+
+pub struct Tally {
+    record: Record,
+    rows: BTreeSet<u32>,
+    /// Each row that has been in the set, as the Rust makes it by itself.
+    made: BTreeMap<u32, (Vec<f32>, f32, Vec<f32>)>,
+    table: Table,
+}
+
+/// The nodes of starting; the rows of the set; zeros.
+fn set_table(r: &Record, rows: &BTreeSet<u32>, made: &BTreeMap<u32, (Vec<f32>, f32, Vec<f32>)>) -> Table {
+    let (n, m) = (r.n as usize, r.m as usize);
+    let (mut profile, mut rho_eff, mut profile_cdf, mut marks) = (vec![0.0; n * m], vec![0.0; n], vec![0.0; n * m], vec![0; n]);
+    for row in rows {
+        let (entries, sum, cdf) = &made[row];
+        let row = *row as usize;
+        profile[row * m..][..m].copy_from_slice(entries);
+        profile_cdf[row * m..][..m].copy_from_slice(cdf);
+        rho_eff[row] = *sum;
+        marks[row] = 1;
+    }
+    Table { floats: [albedos(n), radii(m), profile, rho_eff, profile_cdf], marks }
+}
+
+impl Tally {
+    /// After an accepted start.
+    pub fn new(record: Record) -> Tally {
+        let (rows, made) = (BTreeSet::new(), BTreeMap::new());
+        let table = set_table(&record, &rows, &made);
+        Tally { record, rows, made, table }
+    }
+
+    /// Whether a call is given the start's record. Others are not the tally's.
+    pub fn has(&self, r: &Record) -> bool {
+        self.record.same(r)
+    }
+
+    /// The start's record passes checks 1 to 4, lists as starting leaves them 5 and 6.
+    pub fn build(&mut self, row: u32) -> Outcome {
+        if row >= self.record.n {
+            return Err(7);
+        }
+        let record = self.record;
+        self.made.entry(row).or_insert_with(|| calls::row(&record, row));
+        self.rows.insert(row);
+        self.table = set_table(&self.record, &self.rows, &self.made);
+        Ok(())
+    }
+
+    pub fn sr(&mut self, c: &Coefficients, x: f32) -> Result<[f32; 3], u32> {
+        calls::sr(&self.record, c, x, &self.table.lists())
+    }
+
+    pub fn pdf_sr(&mut self, c: &Coefficients, ch: usize, x: f32) -> Result<f32, u32> {
+        calls::pdf_sr(&self.record, c, ch, x, &self.table.lists())
+    }
+
+    pub fn sample_sr(&mut self, c: &Coefficients, ch: usize, u: f32, allowance: u32) -> Result<(f32, u32), u32> {
+        calls::sample_sr(&self.record, c, ch, u, allowance, &self.table.lists())
+    }
+
+    pub fn lists(&mut self) -> Lists<'_> {
+        self.table.lists()
+    }
+}
