@@ -1,6 +1,6 @@
-//! The making of a beam diffusion table, cut out of the sources of rs_pbrt. Square roots, exponentials, logarithms and the maxima with
-//! 0 go to stand-ins. Beside the function that makes a whole table stand two that are made of its text: one of the nodes, which it
-//! chooses first, and one of a single row, the body of its last loop.
+//! The making of a beam diffusion table, cut out of the sources of rs_pbrt. Square roots, exponentials, logarithms and the maxima
+//! with 0 go to stand-ins. Beside the function that makes a whole table stand two that are made of its text: one of the nodes, which
+//! it chooses first, and one of a single row, the body of its last loop.
 use crate::cutting::{fail, float_type, function, item, line, methods, route, routed, source};
 
 const TABLE: &str = "pub fn compute_beam_diffusion_bssrdf(g: Float, eta: Float, t: &mut BssrdfTable) {";

@@ -1,7 +1,7 @@
-//! Cuts a beam diffusion table, the splines and the three queries of a tabulated BSSRDF out of the sources of rs_pbrt, and writes them
-//! to one file. Square roots, exponentials, logarithms, the maxima with 0, the absolute value that a draw takes and the clamp of a
-//! radiance go to stand-ins. Of the BSSRDF its table, sigma_t and albedo are kept; the latter two are worked out by the lines of its
-//! `new` that do so.
+//! Cuts a beam diffusion table, the splines and the three queries of a tabulated BSSRDF out of the sources of rs_pbrt, and writes
+//! them to one file. Square roots, exponentials, logarithms, the maxima with 0, the absolute value that a draw takes and the clamp of
+//! a radiance go to stand-ins. Of the BSSRDF its table, sigma_t and albedo are kept; the latter two are worked out by the lines of
+//! its `new` that do so.
 //!
 //! usage: cut SOURCES OUTPUT
 #[path = "../shared/cutting.rs"]

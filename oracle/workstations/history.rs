@@ -5,8 +5,15 @@ use crate::writing;
 
 pub enum Call {
     Lens([usize; 6]),
-    Put { list: usize, at: usize, words: Vec<u32> },
-    Fill { list: usize, word: u32 },
+    Put {
+        list: usize,
+        at: usize,
+        words: Vec<u32>,
+    },
+    Fill {
+        list: usize,
+        word: u32,
+    },
     Start(Record),
     Build(Record, u32),
     /// With the world radius.

@@ -1,5 +1,5 @@
-//! Writes calls for crates/workstations_test and the answers that the Rust gives under document 01's checks. From an accepted start on,
-//! as long as nothing else writes the lists, the answers are those of document 01's tally.
+//! Writes calls for crates/workstations_test and the answers that the Rust gives under document 01's checks. From an accepted start
+//! on, as long as nothing else writes the lists, the answers are those of document 01's tally.
 //!
 //! usage: oracle vectors STDIN_FILE STDOUT_FILE               the stored calls
 //!        oracle cases SEED COUNT STDIN_FILE STDOUT_FILE      random histories
@@ -203,23 +203,30 @@ impl State {
         outcome(built, got)
     }
 
+    /// The answer of a query on the tally's table, or on the lists.
+    fn ask<T>(&mut self, r: &Record, query: impl Fn(&Lists) -> T) -> T {
+        match self.tally_of(r) {
+            Some(tally) => query(&tally.lists()),
+            None => query(&self.lent.lists()),
+        }
+    }
+
     fn sr(&mut self, r: &Record, c: &Coefficients, x: f32) -> (Line, Got) {
-        match self.tally_of(r).map(|tally| tally.sr(c, x)).unwrap_or_else(|| calls::sr(r, c, x, &self.lent.lists())) {
+        match self.ask(r, |lists| calls::sr(r, c, x, lists)) {
             Ok(radiance) => (Line::of("value").answers(&radiance), Got::Answer(Query::Sr, kind(&radiance))),
             Err(k) => refused(Query::Sr, k),
         }
     }
 
     fn pdf(&mut self, r: &Record, c: &Coefficients, ch: usize, x: f32) -> (Line, Got) {
-        match self.tally_of(r).map(|tally| tally.pdf_sr(c, ch, x)).unwrap_or_else(|| calls::pdf_sr(r, c, ch, x, &self.lent.lists())) {
+        match self.ask(r, |lists| calls::pdf_sr(r, c, ch, x, lists)) {
             Ok(density) => (Line::of("value").answers(&[density]), Got::Answer(Query::Pdf, kind(&[density]))),
             Err(k) => refused(Query::Pdf, k),
         }
     }
 
     fn draw(&mut self, r: &Record, c: &Coefficients, ch: usize, u: f32, allowance: u32) -> (Line, Got) {
-        let tallied = self.tally_of(r).map(|tally| tally.sample_sr(c, ch, u, allowance));
-        match tallied.unwrap_or_else(|| calls::sample_sr(r, c, ch, u, allowance, &self.lent.lists())) {
+        match self.ask(r, |lists| calls::sample_sr(r, c, ch, u, allowance, lists)) {
             Ok((radius, rounds)) => {
                 let got = if rounds == 0 { Got::NoRound } else { Got::Answer(Query::Draw, kind(&[radius])) };
                 (Line::of("value").answers(&[radius]).then(rounds), got)

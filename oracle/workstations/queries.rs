@@ -1,7 +1,5 @@
 //! Radiance, density and drawing: the stored calls and the random histories.
-use crate::aim::{
-    alike, any_allowance, any_u, channel, coefficients, points, refused_coefficients, Aim, Channel, HUGE, TINY,
-};
+use crate::aim::{alike, any_allowance, any_u, channel, coefficients, points, refused_coefficients, Aim, Channel, HUGE, TINY};
 use crate::calls::{sample_sr, Coefficients, Lists, Record};
 use crate::history::{History, Put};
 use crate::lent::{CAPACITIES, MARKS};
@@ -85,8 +83,8 @@ fn example(put: Put) {
     }
 }
 
-/// Every set of rows of small tables, each built in an order of its own with rows built twice and refused builds between, and asked on
-/// each albedo node and between.
+/// Every set of rows of small tables, each built in an order of its own, with rows built twice and refused builds, and asked on each
+/// albedo node and between two.
 fn every_set(rng: &mut Rng, put: Put) {
     let history = &mut History { class: "every set of rows", put };
     for (n, m, all) in [(2, 2, true), (3, 3, true), (4, 4, true), (5, 3, false), (6, 2, false)] {
@@ -334,7 +332,9 @@ fn coefficients_refused(put: Put) {
     // sums that are infinite, and the nearest that are not
     let half = f32::from_bits(0x7effffff);
     for ch in 0..3 {
-        for (a, s) in [(f32::MAX, f32::MAX), (f32::MAX, 1e32), (half, up(half)), (half, half), (f32::MAX, 1e30), (up(half), up(half))] {
+        for (a, s) in
+            [(f32::MAX, f32::MAX), (f32::MAX, 1e32), (half, up(half)), (half, half), (f32::MAX, 1e30), (up(half), up(half))]
+        {
             let mut channels = [channel(0.5, 1.0); 3];
             channels[ch] = (a, s);
             all_three(r, coefficients(channels), (ch + 1) % 3, middle(3), 0.5, history);
@@ -344,7 +344,7 @@ fn coefficients_refused(put: Put) {
 
 // ---- needed rows
 
-/// Three channels that need a row each, one more and more outside.
+/// Three channels that need a row each, of which a growing radius leaves fewer inside.
 fn outside_in_some(put: Put) {
     let history = &mut History { class: "outside in some channels", put };
     let last = radii(4)[3];
@@ -424,7 +424,9 @@ impl Own {
     fn lend(&self, history: &mut History) {
         history.lens_of(&self.aim.r);
         history.nodes(&self.aim.rho_samples, &self.aim.radius_samples);
-        [(2, &self.profile), (3, &self.rho_eff), (4, &self.profile_cdf)].into_iter().for_each(|(k, list)| history.floats(k, 0, list));
+        [(2, &self.profile), (3, &self.rho_eff), (4, &self.profile_cdf)]
+            .into_iter()
+            .for_each(|(k, list)| history.floats(k, 0, list));
         history.marks(0, &self.marks);
     }
 
@@ -664,13 +666,16 @@ fn by_rounds(rng: &mut Rng, put: Put) {
 /// An albedo that is outside needs no row: 0 from each query, and no round.
 fn albedos_outside(put: Put) {
     let history = &mut History { class: "albedos outside", put };
-    for rho_samples in [vec![0.25, 0.5, 0.75], vec![2.0, 3.0], vec![-2.0, -1.0], vec![f32::from_bits(1), 0.5], vec![-1.0, -0.0, 0.5]] {
+    for rho_samples in
+        [vec![0.25, 0.5, 0.75], vec![2.0, 3.0], vec![-2.0, -1.0], vec![f32::from_bits(1), 0.5], vec![-1.0, -0.0, 0.5]]
+    {
         let aim = aim(&rho_samples, &radii(3));
         let mut own = Own::of(&aim, 2, &mut Rng(14));
         for mark in [0, 1] {
             own.marks.fill(mark);
             own.lend(history);
-            for c in [(1.0, 0.0), (1.0, 1e-45), (0.9, 0.1), (0.5, 0.5), (0.1, 0.9), (0.0, 1.0), (0.0, 4.0), (0.0, 0.0), (0.0, 1e25)] {
+            for c in [(1.0, 0.0), (1.0, 1e-45), (0.9, 0.1), (0.5, 0.5), (0.1, 0.9), (0.0, 1.0), (0.0, 4.0), (0.0, 0.0), (0.0, 1e25)]
+            {
                 all_three(aim.r, alike(c), 1, middle(3), 0.5, history);
             }
             history.draw(aim.r, alike((0.0, 1.0)), 0, 0.5, 1);
@@ -767,7 +772,8 @@ fn with_causes(query: usize, causes: &[usize], rng: &mut Rng, history: &mut Hist
     if has(6) {
         let nodes = if rng.chance(50) { &mut own.aim.rho_samples } else { &mut own.aim.radius_samples };
         let at = rng.below(nodes.len());
-        nodes[at] = if at == 0 { rng.pick(&[f32::NAN, f32::INFINITY, 1e9]) } else { rng.pick(&[f32::NAN, f32::NEG_INFINITY, -1.0]) };
+        nodes[at] =
+            if at == 0 { rng.pick(&[f32::NAN, f32::INFINITY, 1e9]) } else { rng.pick(&[f32::NAN, f32::NEG_INFINITY, -1.0]) };
     }
     own.lend(history);
     let mut r = aim.r;

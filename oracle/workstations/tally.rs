@@ -1,6 +1,6 @@
-//! Document 01's plain tally: fed an accepted start's record and the arguments of later calls, it keeps that record and a set of row
-//! numbers, and answers by the set's table. It never sees an answer, a lent list or a mark.
-use crate::calls::{self, Coefficients, Lists, Outcome, Record};
+//! Document 01's plain tally: fed an accepted start's record and the arguments of later calls, it keeps that record and a set of
+//! row numbers, and answers by the set's table. It never sees an answer, a lent list or a mark.
+use crate::calls::{self, Lists, Outcome, Record};
 use crate::table::{albedos, radii};
 use std::collections::{BTreeMap, BTreeSet};
 
@@ -17,16 +17,19 @@ impl Table {
     }
 }
 
+/// A row's profile, effective albedo and CDF.
+type Row = (Vec<f32>, f32, Vec<f32>);
+
 pub struct Tally {
     record: Record,
     rows: BTreeSet<u32>,
     /// Each row that has been in the set, as the Rust makes it by itself.
-    made: BTreeMap<u32, (Vec<f32>, f32, Vec<f32>)>,
+    made: BTreeMap<u32, Row>,
     table: Table,
 }
 
 /// The nodes of starting; the rows of the set; zeros.
-fn set_table(r: &Record, rows: &BTreeSet<u32>, made: &BTreeMap<u32, (Vec<f32>, f32, Vec<f32>)>) -> Table {
+fn set_table(r: &Record, rows: &BTreeSet<u32>, made: &BTreeMap<u32, Row>) -> Table {
     let (n, m) = (r.n as usize, r.m as usize);
     let (mut profile, mut rho_eff, mut profile_cdf, mut marks) = (vec![0.0; n * m], vec![0.0; n], vec![0.0; n * m], vec![0; n]);
     for row in rows {
@@ -65,18 +68,7 @@ impl Tally {
         Ok(())
     }
 
-    pub fn sr(&mut self, c: &Coefficients, x: f32) -> Result<[f32; 3], u32> {
-        calls::sr(&self.record, c, x, &self.table.lists())
-    }
-
-    pub fn pdf_sr(&mut self, c: &Coefficients, ch: usize, x: f32) -> Result<f32, u32> {
-        calls::pdf_sr(&self.record, c, ch, x, &self.table.lists())
-    }
-
-    pub fn sample_sr(&mut self, c: &Coefficients, ch: usize, u: f32, allowance: u32) -> Result<(f32, u32), u32> {
-        calls::sample_sr(&self.record, c, ch, u, allowance, &self.table.lists())
-    }
-
+    /// The set's table, on which queries are answered.
     pub fn lists(&mut self) -> Lists<'_> {
         self.table.lists()
     }
