@@ -175,6 +175,32 @@ fn read_channel() -> RGBEnum {
     }
 }
 
+// The calls that follow their record.
+fn read_build() -> Call {
+    Call::Build(read_int())
+}
+
+fn read_sr() -> Call {
+    let c = read_coefficients();
+    let x = read_float();
+    Call::Ask(Query::Sr(c, WorldRadius(x)))
+}
+
+fn read_pdf() -> Call {
+    let c = read_coefficients();
+    let ch = read_channel();
+    let x = read_float();
+    Call::Ask(Query::PdfSr(ch, c, WorldRadius(x)))
+}
+
+fn read_draw() -> Call {
+    let c = read_coefficients();
+    let ch = read_channel();
+    let u = read_float();
+    let allowance = (read_int() % 0x1_0000_0000) as u32;
+    Call::Ask(Query::SampleSr(ch, c, u, allowance))
+}
+
 // The words up to the line's end, as many as there is room for: their number.
 fn read_words(words: &mut [u32]) -> usize {
     let mut i = 0;
@@ -499,7 +525,7 @@ fn answer_start(
     ))
 }
 
-// Every call but a start.
+// Every call but a start, once it is read.
 fn answer_step(
     lens: &[usize; 6],
     rho: &[f32],
@@ -527,31 +553,6 @@ fn answer_step(
         &mut marks[..l5],
         call,
     ))
-}
-
-fn read_build() -> Call {
-    Call::Build(read_int())
-}
-
-fn read_sr() -> Call {
-    let c = read_coefficients();
-    let x = read_float();
-    Call::Ask(Query::Sr(c, WorldRadius(x)))
-}
-
-fn read_pdf() -> Call {
-    let c = read_coefficients();
-    let ch = read_channel();
-    let x = read_float();
-    Call::Ask(Query::PdfSr(ch, c, WorldRadius(x)))
-}
-
-fn read_draw() -> Call {
-    let c = read_coefficients();
-    let ch = read_channel();
-    let u = read_float();
-    let allowance = (read_int() % 0x1_0000_0000) as u32;
-    Call::Ask(Query::SampleSr(ch, c, u, allowance))
 }
 
 fn answer_dump(
