@@ -888,9 +888,23 @@ fn any_touched(rng: &mut Rng, put: Put) {
     history.dump();
 }
 
+/// A row of a weight so small that products with it can round to 0, built or not.
+fn any_vanishing(rng: &mut Rng, put: Put) {
+    let history = &mut History { class: "query, vanishing products", put };
+    let r = record(rng.between(2, 5), rng.between(2, 3), any_medium(rng));
+    let rows: Vec<u32> = (0..r.n).filter(|row| rng.chance(if *row == 0 { 90 } else { 40 })).collect();
+    started(r, &rows, history);
+    for _ in 0..6 {
+        let c = alike((1.0, rng.pick(&TINY)));
+        let x = [0.00125, 0.0025 * rng.unit()][rng.below(2)];
+        all_three(r, c, rng.below(3), x, any_u(rng), history);
+    }
+}
+
 pub fn random(rng: &mut Rng, put: Put) {
     match rng.below(20) {
-        0..=10 => any_tallied(any_record(rng), rng.between(5, 40), rng, &mut History { class: "query, started", put }),
+        10 => any_vanishing(rng, put),
+        0..=9 => any_tallied(any_record(rng), rng.between(5, 40), rng, &mut History { class: "query, started", put }),
         11..=14 => any_lists(rng, put),
         15 | 16 => any_drawn(rng, put),
         17 => any_touched(rng, put),
