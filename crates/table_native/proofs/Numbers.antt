@@ -1,10 +1,13 @@
--- The answer of a number: done for 0, and else the refusal. Assumes nothing.
-use mathlib.Core.Path.{_≡_, refl}
+-- The number of a refusal is not 0, since "done" is no refusal; so it gives that refusal. Assumes nothing.
+use mathlib.Core.Path.{_≡_, refl, sym, ap}
+use mathlib.Core.Bool.{false≢true}
 use Prim.Native.Nat.{ℕ, zero, suc}
-use Rattle.answers.specs.Answer.{refusal, answered}
+use native.Mathlib.Omega.{arith}
+use Rattle.answers.specs.Answer.{Answer, refusal, answered}
 use Rattle.table.specs.Parameters.{done}
 
-pub numbered : (k : ℕ) → answered k done ≡ refusal k
+pub numbered : (n k : ℕ) → refusal n ≡ answered k done → answered n done ≡ refusal n
 unfolding answered
-numbered zero = refl
-numbered (suc k) = refl
+numbered zero zero e = absurd (false≢true (sym (ap (λ (a : Answer). a .refused) e)))
+numbered zero (suc k) e = absurd (omega (arith, ap (λ (a : Answer). a .number) e))
+numbered (suc n) k e = refl

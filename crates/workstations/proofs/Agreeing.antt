@@ -97,10 +97,7 @@ module _ (laws : QueryLaws) (r : Record) where
 
 pub agreement : QueryLaws → Agreement
 unfolding step
-agreement laws r w₁ w₂ up q p al v = (
-  ap (λ (t : Lists). ask r t q) (after-is r w₁),
-  ap (λ (t : Lists). ask r t p) (after-is r w₂) ∙ agree-on laws r (rowsOf r w₁) (rowsOf r w₂) up q p al v,
-)
+agreement laws r w₁ w₂ up q p al = rw (after-is r w₁, after-is r w₂) (λ v. (refl, agree-on laws r (rowsOf r w₁) (rowsOf r w₂) up q p al v))
 
 pub row-missing : QueryLaws → RowMissing
 unfolding step

@@ -71,7 +71,7 @@ IsTally = (r : Record) (w : Workstation r) → (session r w .answers ≡ tallied
 -- (b) where the second's rows include the first's, a query with a value on the first's table gets that value, with its rounds, on both; on the second's with any accepted allowance at least as large
 abbrev pub Agreement : Type 0
 Agreement = (r : Record) (w₁ w₂ : Workstation r) → Includes (rowsOf r w₁) (rowsOf r w₂) → (q p : Query) → Allows q p
-    → let a = ask r (tableOf r (rowsOf r w₁)) q in IsValue a → (step r (tableAfter r w₁) (Ask q) .answer ≡ a) × (step r (tableAfter r w₂) (Ask p) .answer ≡ a)
+    → let a = ask r (tableAfter r w₁) q in IsValue a → (step r (tableAfter r w₁) (Ask q) .answer ≡ a) × (step r (tableAfter r w₂) (Ask p) .answer ≡ a)
 
 -- (c) equal sets of built rows mean equal tables
 abbrev pub SameTables : Type 0
