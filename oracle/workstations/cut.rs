@@ -23,18 +23,18 @@ const BSSRDF: &str = "pub struct TabulatedBssrdf {
 ";
 
 const MEDIUM: &str = "pub fn medium(sigma_a: &Spectrum, sigma_s: &Spectrum, table: BssrdfTable) -> TabulatedBssrdf {";
-const FIRST: &str = "        let sigma_t: Spectrum = *sigma_a + *sigma_s;";
-/// What follows is about the surface.
-const END: &str = "        let ns: Normal3f = po.shading.n;";
+/// How the first of its lines begins, and the first after them, which is about the surface.
+const FIRST: &str = "        let sigma_t";
+const END: &str = "        let ns";
 
 /// The function that works out sigma_t and the albedo.
 fn medium(bssrdf: &str) -> String {
     let new = method(bssrdf, "TabulatedBssrdf", "new");
     let lines: Vec<&str> = new.lines().collect();
     let place = |text: &str| {
-        let places: Vec<usize> = (0..lines.len()).filter(|at| lines[*at] == text).collect();
+        let places: Vec<usize> = (0..lines.len()).filter(|at| lines[*at].starts_with(text)).collect();
         if places.len() != 1 {
-            fail(format!("`{}` was expected once, and is there {} times", text.trim(), places.len()));
+            fail(format!("a line that begins with `{}` was expected once, and is there {} times", text.trim(), places.len()));
         }
         places[0]
     };

@@ -26,7 +26,7 @@ albedoWeights t c ch = catmullRomWeights (t .rhoSamples) (channel (rho c) ch)
 unfoldable pub radiusWeights : Lists → Coefficients → WorldRadius → RGBEnum → Weights
 radiusWeights t c x ch = catmullRomWeights (t .radiusSamples) (opticalRadius c x ch .0)
 
--- ---- three channels of four weights, as the code has them: three lists of four
+-- ---- what the contracts of the parts of `sr` speak of: three channels of four weights, as the code has them, in three lists of four
 
 abbrev pub threeOf : {A : Type 0} → (ℕ → A) → List A
 threeOf f = f 0 ∷ f 1 ∷ f 2 ∷ []

@@ -33,7 +33,7 @@ use Rattle.bssrdf.specs.declared.coefficients.OpticalRadius.{OpticalRadi
 use Rattle.bssrdf.specs.declared.radiance.Radiance as Declared
 use Rattle.bssrdf.specs.declared.radiance.Radiance.the-variants.{Value, Refused}
 
--- `eval_profile`: the entry of the albedo weight i and the radius weight j, in a profile with m radii. Either offset may be -1; the weight of that place is zero, and its entry is not read (`sr-same` of proofs/Same)
+-- `eval_profile`: the entry of the albedo weight i and the radius weight j, in a profile with m radii. Either offset may be -1; the weight of that place is zero, and its entry is not read (`factors-nonzero` of proofs/Products)
 unfoldable pub evalProfile : List Float → ℕ → ℤ → ℤ → ℕ → ℕ → Float
 evalProfile profile m rhoOffset radiusOffset i j = getD profile (rowOf rhoOffset i * m + rowOf radiusOffset j) nan
 
@@ -55,13 +55,6 @@ unfoldable pub tensor : List Float → ℕ → ℤ → Four → ℤ → Four →
 tensor profile m rhoOffset f radiusOffset g =
     overFour (λ i. overFour (addCell profile m rhoOffset f radiusOffset g i)) (lit 0)
 
--- what reading asks for: the row of each nonzero albedo weight lies within the profile, the radius of each nonzero radius weight is one of the m, and the weights are finite, so that a product with a zero weight is zero
-pub record Readable (profile : List Float) (m i : ℕ) (f : Four) (j : ℕ) (g : Four) : Type 0 where
-  pub rows : InTable profile m i f
-  pub radii : Reach g j m
-  pub rho-bounded : Bounded f
-  pub radius-bounded : Bounded g
-
 -- the marginal factor of the profile cancelled: / (2.0 * PI * r_optical), unless that is 0
 unfoldable pub cancelled : OpticalRadius → Float → Float
 cancelled x v = cond (eq (x .0) (lit 0)) v (v ⊘ (two ⊗ pi ⊗ x .0))
@@ -71,11 +64,6 @@ unfoldable pub channelSr : List Float → ℕ → OpticalRadius → Weights → 
 channelSr profile m x (At rhoOffset f) (At radiusOffset g) = cancelled x (tensor profile m rhoOffset f radiusOffset g)
 channelSr profile m x (At rhoOffset f) Outside = lit 0
 channelSr profile m x Outside w = lit 0
-
--- the channel k of three, by what the code has of it on the two axes
-abbrev pub channelBy : List Float → ℕ → OpticalRadius → List Bool → List ℕ → List (List Float) → List ℕ → List (List Float) → ℕ → Float
-channelBy profile m x inside rhoAt rhoWeights radiusAt radiusWeights k =
-    channelSr profile m x (weightsBy (getD inside k false) (getD rhoAt k 0) (getD rhoWeights k [])) (weightsBy (getD inside k false) (getD radiusAt k 0) (getD radiusWeights k []))
 
 unfoldable pub channelAt : Record → Lists → Coefficients → WorldRadius → RGBEnum → Float
 channelAt r t c x ch = channelSr (t .profile) (r .m) (opticalRadius c x ch) (albedoWeights t c ch) (radiusWeights t c x ch)
@@ -97,3 +85,17 @@ srNumber r t c x = firstOf (queryNumber r t c ∷ check11 (t .marks) (srRows t c
 -- the clamp of each channel from 0 on, which keeps a -0
 unfoldable pub sr : Record → Lists → Coefficients → WorldRadius → Answer
 sr r t c x = answered (srNumber r t c x) (spectrumValue (clamp (unclamped r t c x) (lit 0) (inf false)))
+
+-- ---- what the contracts of its parts speak of
+
+-- what reading asks for: the row of each nonzero albedo weight lies within the profile, the radius of each nonzero radius weight is one of the m, and the weights are finite, so that a product with a zero weight is zero
+pub record Readable (profile : List Float) (m i : ℕ) (f : Four) (j : ℕ) (g : Four) : Type 0 where
+  pub rows : InTable profile m i f
+  pub radii : Reach g j m
+  pub rho-bounded : Bounded f
+  pub radius-bounded : Bounded g
+
+-- the channel k of three, by what the code has of it on the two axes
+abbrev pub channelBy : List Float → ℕ → OpticalRadius → List Bool → List ℕ → List (List Float) → List ℕ → List (List Float) → ℕ → Float
+channelBy profile m x inside rhoAt rhoWeights radiusAt radiusWeights k =
+    channelSr profile m x (weightsBy (getD inside k false) (getD rhoAt k 0) (getD rhoWeights k [])) (weightsBy (getD inside k false) (getD radiusAt k 0) (getD radiusWeights k []))
