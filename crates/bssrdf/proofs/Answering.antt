@@ -1,6 +1,6 @@
 -- How a query answers by its checks: the number of those before 11; then 11 unless all needed rows are marked; then what is left. Assumes nothing.
 use mathlib.Core.Path.{_≡_, refl, _∙_}
-use mathlib.Core.Bool.{Bool, true, false, cond, not, true≢false, false≢true}
+use mathlib.Core.Bool.{Bool, true, false, not, true≢false, false≢true}
 use mathlib.Core.List.{List, [], _∷_}
 use Prim.Native.Nat.{ℕ, zero, suc, _<_}
 use native.Mathlib.Omega.{arith}

@@ -1,7 +1,7 @@
 -- What `weightsBy` stands for: a channel that is inside has its weights on both axes, and one that is outside needs no row and is 0. A channel is inside if it is on both axes, so one test serves for the two. Assumes nothing.
 use mathlib.Core.Path.{_≡_, refl}
-use mathlib.Core.Bool.{Bool, true, false, cond, _&&_, false≢true, true≢false}
-use mathlib.Core.List.{List, []}
+use mathlib.Core.Bool.{Bool, true, false, _&&_, false≢true, true≢false}
+use mathlib.Core.List.{List}
 use Prim.Native.Nat.{ℕ}
 use lib.Ieee.{Float}
 use Rattle.elementary.specs.Notation.{lit}

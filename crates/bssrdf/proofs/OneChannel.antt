@@ -1,12 +1,10 @@
 -- A channel by whether its albedo, and its optical radius, lies within the nodes: which rows it needs, and its density or draw. Assumes nothing.
-use mathlib.Core.Path.{_≡_, refl, ap, _∙_}
+use mathlib.Core.Path.{_≡_, refl}
 use mathlib.Core.Bool.{Bool, true, false, cond, _&&_, true≢false, false≢true}
-use mathlib.Core.List.{List, []}
-use Prim.Native.Nat.{ℕ, _≤_}
-use lib.IntN.{ℤ}
-use lib.ListN.{length}
+use mathlib.Core.List.{[]}
+use Prim.Native.Nat.{ℕ}
 use lib.Ieee.{Float, eq, neg}
-use Rattle.elementary.specs.Notation.{_⊘_, lit}
+use Rattle.elementary.specs.Notation.{lit}
 use Rattle.interpolation.specs.Interval.{nodeInterval}
 use Rattle.interpolation.specs.Weights.{fourAt, offsetOf, within, catmullRomWeights}
 use Rattle.interpolation.specs.Sample.{drawFrom, sampleCatmullRom2d}

@@ -3,7 +3,7 @@
 use mathlib.Core.Path.{_≡_, refl, sym, ap, _∙_}
 use mathlib.Core.Bool.{Bool, true, false, false≢true, true≢false}
 use mathlib.Core.Logic.{_⊎_, inl, inr}
-use Prim.Native.Nat.{ℕ, zero, suc, _*_, _<_}
+use Prim.Native.Nat.{ℕ, zero, _*_, _<_}
 use native.Mathlib.Nat.{mul-zero, zero-mul, mul-pos}
 use native.Mathlib.Omega.{arith}
 use borrow.Author.Tests.{eqb-true}
@@ -12,6 +12,7 @@ use lib.Ieee.{Float, nan, inf, fin, binary32, up, down, unlike, round, mul, eq, 
 use lib.Ieee.Fits.{up-pos, down-pos}
 use lib.Ieee.Scale.{round-same}
 use Rattle.elementary.specs.Notation.{_⊗_, lit}
+use Rattle.elementary.proofs.Monotone.{no-factor}
 use Rattle.interpolation.specs.Nodes.{finite}
 use Rattle.interpolation.proofs.Finite.{and-left}
 
@@ -23,13 +24,6 @@ rounded-zero s d h = ap (λ (x : Float). eq x (lit 0)) (round-same binary32 s 0 
     at : (s : Bool) → eq (round binary32 s 0 1) (lit 0) ≡ true
     at true = refl
     at false = refl
-
-no-factor : (m u : ℕ) → 0 < u → m * u ≡ 0 → m ≡ 0
-no-factor zero u h e = refl
-no-factor (suc m) u h e = absurd (over e)
-  where
-    over : suc m * u ≡ 0 → ⊥
-    over e = omega arith
 
 -- a finite zero has the significand 0
 significand : (s : Bool) (m : ℕ) (e : ℤ) → eq (fin s m e) (lit 0) ≡ true → m ≡ 0

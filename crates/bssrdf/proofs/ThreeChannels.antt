@@ -1,7 +1,7 @@
 -- What the arrays of three channels hold, channel by channel: an interval and four weights that stand for the weights of the channel's value among the nodes. A nonzero weight's node exists whatever the value is, since the search answers an interval of the list.
 -- Assumes nothing.
 use mathlib.Core.Path.{_≡_, refl, sym, ap, _∙_}
-use mathlib.Core.Bool.{Bool, true, false, cond, _&&_}
+use mathlib.Core.Bool.{Bool, true, false, _&&_}
 use mathlib.Core.List.{List, [], _∷_, _++_}
 use Prim.Native.Nat.{ℕ, zero, suc, _+_, _≤_, _<_}
 use native.Mathlib.Omega.{arith}

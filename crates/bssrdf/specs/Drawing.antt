@@ -1,7 +1,7 @@
 -- The offered call `sample_sr`, of `TabulatedBssrdf` in bssrdf.rs, with an allowance of rounds (document 01, "Drawing a radius").
 use Prim.Native.Nat.{ℕ}
 use mathlib.Core.Bool.{cond}
-use mathlib.Core.List.{List, [], _∷_}
+use mathlib.Core.List.{[], _∷_}
 use lib.IntN.{pos}
 use lib.Ieee.{Float, eq, neg}
 use Rattle.elementary.specs.Notation.{_⊘_, lit}

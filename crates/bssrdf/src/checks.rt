@@ -1,12 +1,8 @@
 // The checks of document 01's table that concern queries alone, and the checks that a query makes
 // before 11. Each gives its number, or 0 where it refuses nothing.
 ghost use mathlib.Core.Path.{_≡_};
-ghost use mathlib.Core.List.{[], _∷_};
-ghost use lib.ListN.{length};
-ghost use Rattle.interpolation.specs.Checks.{check9, check10};
 ghost use Rattle.interpolation.specs.Nodes.{finite};
-ghost use Rattle.table.specs.Checks.{tableNumber};
-ghost use Rattle.answers.specs.Checks.{firstOf};
+ghost use Rattle.table.specs.Parameters.{lists};
 ghost use Rattle.bssrdf.specs.Checks as Checks;
 use crate::coefficients::Coefficients;
 use interpolation::checks::check_allowance;
@@ -45,28 +41,59 @@ pub fn check_coefficients(c: Coefficients) -> u32
     if a & s & t { 0 } else { 8 }
 }
 
-// What a query makes before 11: 1 to 6 and 8.
+// What `sr` and `pdf_sr` make before 11: 1 to 6 and 8.
 pub fn query_number(
     r: Record,
     rho_samples: &[f32],
     radius_samples: &[f32],
-    l: Lengths,
+    profile: &[f32],
+    rho_eff: &[f32],
+    profile_cdf: &[f32],
+    marks: &[u8],
     c: Coefficients,
 ) -> u32
-    requires { ⌜ (l .«rho_samples» ≡ length (now «rho_samples»)) × (l .«radius_samples» ≡ length (now «radius_samples»)) ⌝ }
-    ensures { λ y. ⌜ y ≡ firstOf (tableNumber r (now («rho_samples» .entry)) (now («radius_samples» .entry)) l ∷ Checks.check8 c ∷ []) ⌝ }
+    ensures { λ y. ⌜ y ≡ Checks.queryNumber r (lists (now («rho_samples» .entry)) (now («radius_samples» .entry)) (now (profile .entry)) (now («rho_eff» .entry)) (now («profile_cdf» .entry)) (now (marks .entry))) c ⌝ }
 {
-    let table = table_number(r, rho_samples, radius_samples, l);
+    let lengths = Lengths {
+        rho_samples: rho_samples.len(),
+        radius_samples: radius_samples.len(),
+        profile: profile.len(),
+        rho_eff: rho_eff.len(),
+        profile_cdf: profile_cdf.len(),
+        marks: marks.len(),
+    };
+    let table = table_number(r, rho_samples, radius_samples, lengths);
     if table > 0 {
         return table;
     }
     check_coefficients(c)
 }
 
-// Of the arguments of a draw: 9 and 10.
-pub fn draw_number(query: u32, u: f32, allowance: u32) -> u32
-    ensures { λ y. ⌜ y ≡ firstOf (query ∷ check9 u ∷ check10 allowance ∷ []) ⌝ }
+// And `sample_sr`: 1 to 6 and 8 to 10.
+pub fn draw_number(
+    r: Record,
+    rho_samples: &[f32],
+    radius_samples: &[f32],
+    profile: &[f32],
+    rho_eff: &[f32],
+    profile_cdf: &[f32],
+    marks: &[u8],
+    c: Coefficients,
+    u: f32,
+    allowance: u32,
+) -> u32
+    ensures { λ y. ⌜ y ≡ Checks.drawNumber r (lists (now («rho_samples» .entry)) (now («radius_samples» .entry)) (now (profile .entry)) (now («rho_eff» .entry)) (now («profile_cdf» .entry)) (now (marks .entry))) c u allowance ⌝ }
 {
+    let query = query_number(
+        r,
+        rho_samples,
+        radius_samples,
+        profile,
+        rho_eff,
+        profile_cdf,
+        marks,
+        c,
+    );
     if query > 0 {
         return query;
     }

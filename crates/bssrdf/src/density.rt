@@ -24,7 +24,6 @@ use interpolation::interval::find_interval;
 use interpolation::weights::Four;
 use interpolation::weights::four_at;
 use scattering::RGBEnum;
-use table::Lengths;
 use table::Record;
 
 // The density, or a refusal's number.
@@ -112,15 +111,16 @@ pub fn pdf_sr(
 ) -> Density
     ensures { λ y. ⌜ Spec.pdfTold y ≡ Spec.pdfSr r (lists (now («rho_samples» .entry)) (now («radius_samples» .entry)) (now (profile .entry)) (now («rho_eff» .entry)) (now («profile_cdf» .entry)) (now (marks .entry))) ch c x ⌝ }
 {
-    let lengths = Lengths {
-        rho_samples: rho_samples.len(),
-        radius_samples: radius_samples.len(),
-        profile: profile.len(),
-        rho_eff: rho_eff.len(),
-        profile_cdf: profile_cdf.len(),
-        marks: marks.len(),
-    };
-    let number = query_number(r, rho_samples, radius_samples, lengths, c);
+    let number = query_number(
+        r,
+        rho_samples,
+        radius_samples,
+        profile,
+        rho_eff,
+        profile_cdf,
+        marks,
+        c,
+    );
     if number > 0 {
         return Density::Refused(number);
     }

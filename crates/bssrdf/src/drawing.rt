@@ -3,7 +3,6 @@ ghost use mathlib.Core.Path.{_≡_};
 ghost use Rattle.table.specs.Parameters.{lists};
 ghost use Rattle.bssrdf.specs.Drawing as Spec;
 use crate::checks::draw_number;
-use crate::checks::query_number;
 use crate::coefficients::Coefficients;
 use crate::needed::are_marked;
 use interpolation::interval::find_interval;
@@ -12,7 +11,6 @@ use interpolation::sample::draw;
 use interpolation::weights::four_at;
 use interpolation::weights::is_within;
 use scattering::RGBEnum;
-use table::Lengths;
 use table::Record;
 
 // A radius drawn and the rounds made, or a refusal's number. The radius is -1 where sigma_t is 0 and
@@ -50,16 +48,18 @@ pub fn sample_sr(
 ) -> Drawn
     ensures { λ y. ⌜ Spec.drawnTold y ≡ Spec.sampleSr r (lists (now («rho_samples» .entry)) (now («radius_samples» .entry)) (now (profile .entry)) (now («rho_eff» .entry)) (now («profile_cdf» .entry)) (now (marks .entry))) ch c u allowance ⌝ }
 {
-    let lengths = Lengths {
-        rho_samples: rho_samples.len(),
-        radius_samples: radius_samples.len(),
-        profile: profile.len(),
-        rho_eff: rho_eff.len(),
-        profile_cdf: profile_cdf.len(),
-        marks: marks.len(),
-    };
-    let query = query_number(r, rho_samples, radius_samples, lengths, c);
-    let number = draw_number(query, u, allowance);
+    let number = draw_number(
+        r,
+        rho_samples,
+        radius_samples,
+        profile,
+        rho_eff,
+        profile_cdf,
+        marks,
+        c,
+        u,
+        allowance,
+    );
     if number > 0 {
         return Drawn::Refused(number);
     }

@@ -32,7 +32,6 @@ use crate::needed::are_ready;
 use elementary::PI;
 use interpolation::weights::Four;
 use scattering::Spectrum;
-use table::Lengths;
 use table::Record;
 
 // The radiance of each channel, or a refusal's number.
@@ -198,15 +197,16 @@ pub fn sr(
 ) -> Radiance
     ensures { λ y. ⌜ Spec.srTold y ≡ Spec.sr r (lists (now («rho_samples» .entry)) (now («radius_samples» .entry)) (now (profile .entry)) (now («rho_eff» .entry)) (now («profile_cdf» .entry)) (now (marks .entry))) c x ⌝ }
 {
-    let lengths = Lengths {
-        rho_samples: rho_samples.len(),
-        radius_samples: radius_samples.len(),
-        profile: profile.len(),
-        rho_eff: rho_eff.len(),
-        profile_cdf: profile_cdf.len(),
-        marks: marks.len(),
-    };
-    let number = query_number(r, rho_samples, radius_samples, lengths, c);
+    let number = query_number(
+        r,
+        rho_samples,
+        radius_samples,
+        profile,
+        rho_eff,
+        profile_cdf,
+        marks,
+        c,
+    );
     if number > 0 {
         return Radiance::Refused(number);
     }

@@ -69,7 +69,7 @@ tested a b q e = go (ltb a b) (ltb→lt a b)
     go true l t = le-of-lt (l tt)
     go false l t = le-of-eq (e t)
 
-no-factor : (a u : ℕ) → 0 < u → a * u ≡ 0 → a ≡ 0
+pub no-factor : (a u : ℕ) → 0 < u → a * u ≡ 0 → a ≡ 0
 no-factor a u U h = eq-of-mul-eq-mul-right u U a 0 (h ∙ sym (zero-mul u))
 
 -- both zero, of opposite signs

@@ -8,7 +8,7 @@ use Prim.Native.Nat.{ℕ, _<_}
 use native.Mathlib.Omega.{arith}
 use lib.Dec.{eqb}
 use Rattle.answers.specs.Answer.{Answer, refusal}
-use Rattle.table.specs.Parameters.{Lists, lengthsOf}
+use Rattle.table.specs.Parameters.{lengthsOf}
 use Rattle.table.specs.Nodes.{rhoSamples, radiusSamples}
 use Rattle.table.specs.Sets.{Rows, tableOf}
 use Rattle.table.specs.Laws.{TableRow, rowAt, builtRow, emptyRow}

@@ -54,6 +54,10 @@ run r t (c ∷ cs) =
     let rest = run r (first .lists) cs in
     record { answers = first .answer ∷ rest .answers; lists = rest .lists }
 
+-- how many calls are made at once
+abbrev pub batch : ℕ
+batch = 16
+
 -- ---- document 01's number and values of each case of an answer
 
 unfoldable pub told : Declared.Answer → Answer

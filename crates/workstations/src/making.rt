@@ -154,7 +154,7 @@ pub fn step(
 
 // How many of a batch the first n are.
 fn in_batch(n: usize) -> usize
-    ensures { λ k. ⌜ k ≡ min n 16 ⌝ }
+    ensures { λ k. ⌜ k ≡ min n Calls.batch ⌝ }
 {
     if n < BATCH { n } else { BATCH }
 }

@@ -1,6 +1,5 @@
 -- `bssrdf::density::inside_density` meets its contract: the effective albedos are blended as a table with one column. Assumes nothing.
 use borrow.Author.Needs.{needs}
-use native.Mathlib.Omega.{arith}
 use Rattle.bssrdf.specs.Density.{densityOf, blendedAlbedo}
 use Rattle.bssrdf.proofs.density.inside_density.Statement.{statement}
 use Rattle.bssrdf.proofs.density.inside_density.Tie as tie

@@ -1,17 +1,13 @@
 -- `bssrdf::drawing::sample_sr` meets its contract. The checks before 11 give the number, or say that the table is accepted, so that each row of nonzero weight has its places in the lists; then the answer goes by whether sigma_t is 0, the albedo is inside (`OneChannel`) and its rows are marked. Assumes nothing.
 use borrow.Author.Needs.{needs}
-use mathlib.Core.Path.{_≡_, refl, sym, ap, _∙_}
+use mathlib.Core.Path.{_≡_, sym, ap, _∙_}
 use mathlib.Core.Bool.{true, false}
-use mathlib.Core.List.{[], _∷_}
-use Prim.Native.Nat.{ℕ, _+_, _≤_}
+use Prim.Native.Nat.{_+_, _≤_}
 use native.Mathlib.Omega.{arith}
 use lib.ListN.{length}
 use lib.Ieee.{Float, eq}
 use Rattle.elementary.specs.Notation.{lit}
-use Rattle.answers.specs.Answer.{Answer}
-use Rattle.answers.specs.Checks.{firstOf}
 use Rattle.answers.proofs.Refusals.{nothing, first-none}
-use Rattle.interpolation.specs.Checks.{check9, check10}
 use Rattle.interpolation.specs.Interval.{nodeInterval}
 use Rattle.interpolation.specs.Weights.{fourAt, within, offsetOf}
 use Rattle.interpolation.specs.Laws.{Reach}
@@ -34,23 +30,18 @@ use Rattle.bssrdf.proofs.drawing.sample_sr.Statement.{statement}
 use Rattle.bssrdf.proofs.drawing.sample_sr.Tie as tie
 
 abbrev start : tie.Else1 → tie.Start
-start c = c .before .before .before .before .before .before .before .before .before
+start c = c .before .before .before .before .before .before .before .before
 
 -- the lists, as they are lent
 abbrev table : tie.Start → Lists
 table s = lists (s .args .rho-samples .now) (s .args .radius-samples .now) (s .args .profile .now) (s .args .rho-eff .now) (s .args .profile-cdf .now) (s .args .marks .now)
 
--- the number of the checks before 11
-number : (c : tie.After-draw-number) → let s = c .before .before .before .before .before .before .before .before in c .draw-number .result ≡ drawNumber (s .args .r) (table s) (s .args .c) (s .args .u) (s .args .allowance)
-unfolding drawNumber queryNumber
-number c = let s = c .before .before .before .before .before .before .before .before in c .draw-number .ensures ∙ ap (λ (q : ℕ). firstOf (q ∷ check9 (s .args .u) ∷ check10 (s .args .allowance) ∷ [])) (c .before .query-number .ensures)
-
 returns : tie.Need-returns
 unfolding Spec.drawnTold Spec.sampleSr Spec.sampleNumber
-returns c = rw (← number (c .before)) (sym (refused-before _ _ _ (c .if1 .taken)))
+returns c = rw (← c .before .draw-number .ensures) (sym (refused-before _ _ _ (c .if1 .taken)))
 
 in-order : (c : tie.Else1) → let s = start c in drawNumber (s .args .r) (table s) (s .args .c) (s .args .u) (s .args .allowance) ≡ 0
-in-order c = nothing _ _ (number (c .before)) (c .if1 .left)
+in-order c = nothing _ _ (c .before .draw-number .ensures) (c .if1 .left)
 
 accepted : (c : tie.Else1) → queryNumber (start c .args .r) (table (start c)) (start c .args .c) ≡ 0
 unfolding drawNumber
@@ -164,7 +155,6 @@ pub sample-sr-spec : {M : Type 1} → statement M
 sample-sr-spec =
     tie.close
     (tie.spec
-    (λ c κs. search needs)
     (λ c κs. search needs)
     returns
     (λ c κs. search needs)

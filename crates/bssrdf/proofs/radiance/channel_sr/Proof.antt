@@ -1,6 +1,6 @@
 -- `bssrdf::radiance::channel_sr` meets its contract: the weights stand for "outside" exactly where the channel is. Assumes nothing.
 use borrow.Author.Needs.{needs}
-use mathlib.Core.Path.{sym, _∙_}
+use mathlib.Core.Path.{sym}
 use Rattle.bssrdf.proofs.Channels.{sr-inside, sr-outside}
 use Rattle.bssrdf.proofs.radiance.channel_sr.Statement.{statement}
 use Rattle.bssrdf.proofs.radiance.channel_sr.Tie as tie

@@ -5,13 +5,14 @@ use Prim.Native.Nat.{_-_, _≤_, min}
 use native.Mathlib.Omega.{arith}
 use lib.ListN.{length, length-set}
 use Rattle.table.specs.Parameters.{lists}
+use Rattle.workstations.specs.Calls.{batch}
 use Rattle.workstations.proofs.Batches.{Made, made-none, made-more, made-first}
 use Rattle.workstations.proofs.making.make.Statement.{statement}
 use Rattle.workstations.proofs.making.make.Tie as tie
 
 abbrev Inv-loop : tie.InvT-loop
 Inv-loop r rho-samples radius-samples profile₀ rho-eff₀ profile-cdf₀ marks₀ n calls count answers₀ j₀ profile rho-eff profile-cdf marks answers j =
-    (j ≤ count) × (count ≡ min n 16) × (length answers ≡ 16)
+    (j ≤ count) × (count ≡ min n batch) × (length answers ≡ batch)
     × (length profile ≡ length profile₀) × (length rho-eff ≡ length rho-eff₀) × (length profile-cdf ≡ length profile-cdf₀) × (length marks ≡ length marks₀)
     × Made r (lists rho-samples radius-samples profile₀ rho-eff₀ profile-cdf₀ marks₀) calls answers (lists rho-samples radius-samples profile rho-eff profile-cdf marks) j
 
@@ -45,8 +46,8 @@ returns : tie.Need-returns Inv-loop μ-loop
 returns c =
     let inv = c .before .loop .inv in
     let start = c .before .before .before .before .before .before .before .before .before in
-    let all : c .before .loop .j ≡ min (start .args .n) 16 = omega (arith, c .loop-test .left, inv .0, inv .1) in
-    let made = made-first (start .args .n) 16 (rw all at (inv .7)) (omega (arith, start .good .1 .1 .1 .1 .1 .1 .1 .0)) (inv .2) in
+    let all : c .before .loop .j ≡ min (start .args .n) batch = omega (arith, c .loop-test .left, inv .0, inv .1) in
+    let made = made-first (start .args .n) batch (rw all at (inv .7)) (omega (arith, start .good .1 .1 .1 .1 .1 .1 .1 .0)) (inv .2) in
     (made .answers, made .lists)
 
 pub make-spec : {M : Type 1} → statement M
