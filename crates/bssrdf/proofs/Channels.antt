@@ -1,52 +1,70 @@
--- What `weightsBy` stands for: a channel that is inside has its weights on both axes, and one that is outside needs no row and is 0. A channel is inside if it is on both axes, so one test serves for the two. Assumes nothing.
-use mathlib.Core.Path.{_≡_, refl}
-use mathlib.Core.Bool.{Bool, true, false, _&&_, false≢true, true≢false}
-use mathlib.Core.List.{List}
+-- A channel is inside if it is so on both axes; else it needs no row, and its radiance and density are 0. So one test serves for the two axes. Assumes nothing.
+use mathlib.Core.Path.{_≡_, refl, sym, _∙_}
+use mathlib.Core.Bool.{Bool, true, false, cond, _&&_, true≢false}
+use mathlib.Core.List.{List, []}
 use Prim.Native.Nat.{ℕ}
 use lib.Ieee.{Float}
 use Rattle.elementary.specs.Notation.{lit}
-use Rattle.interpolation.specs.Weights.{offsetOf}
-use Rattle.bssrdf.specs.Axes.{fourOf, weightsBy}
-use Rattle.bssrdf.specs.Needed.{weightedRows, rowsOf, rowsOfBoth, allMarked}
-use Rattle.bssrdf.specs.Radiance.{tensor, cancelled, channelSr}
+use Rattle.interpolation.specs.declared.weights.Weights.{Weights}
+use Rattle.interpolation.specs.declared.weights.Weights.the-variants.{At, Outside}
+use Rattle.bssrdf.specs.Axes.{weightsBy}
+use Rattle.bssrdf.specs.Needed.{rowsOf, rowsOfBoth}
+use Rattle.bssrdf.specs.Radiance.{channelSr}
+use Rattle.bssrdf.specs.Density.{densityOf}
 use Rattle.bssrdf.specs.declared.coefficients.OpticalRadius.{OpticalRadius}
 
--- ---- rows
+-- ---- what depends on the weights of both axes and is z where one of them is outside
 
-pub marked-inside : (marks : List ℕ) (i : ℕ) (ws : List Float) (inside : Bool) → inside ≡ true → allMarked marks (rowsOf (weightsBy inside i ws)) ≡ allMarked marks (weightedRows (offsetOf i) (fourOf ws))
-unfolding weightsBy rowsOf
-marked-inside marks i ws true e = refl
-marked-inside marks i ws false e = absurd (false≢true e)
+pub record ZeroOutside {A : Type 0} (F : Weights → Weights → A) (z : A) : Type 0 where
+  pub no-radius : (w : Weights) → F w Outside ≡ z
+  pub no-albedo : (v : Weights) → F Outside v ≡ z
 
-pub marked-outside : (marks : List ℕ) (i : ℕ) (ws : List Float) (inside : Bool) → inside ≡ false → allMarked marks (rowsOf (weightsBy inside i ws)) ≡ true
-unfolding weightsBy rowsOf allMarked
-marked-outside marks i ws true e = absurd (true≢false e)
-marked-outside marks i ws false e = refl
+module _ {A : Type 0} (F : Weights → Weights → A) (z : A) (Z : ZeroOutside F z) (w v : Weights) where
+  pub outside : (p q : Bool) → (p && q) ≡ false → F (cond p w Outside) (cond q v Outside) ≡ z
+  outside true true e = absurd (true≢false e)
+  outside true false e = Z .no-radius w
+  outside false q e = Z .no-albedo (cond q v Outside)
 
--- ---- radiance
+  -- one test for both
+  pub one-test : (p q : Bool) → F (cond (p && q) w Outside) (cond (p && q) v Outside) ≡ F (cond p w Outside) (cond q v Outside)
+  one-test true true = refl
+  one-test true false = Z .no-radius Outside ∙ sym (Z .no-radius w)
+  one-test false q = Z .no-radius Outside ∙ sym (Z .no-albedo (cond q v Outside))
 
-pub sr-inside : (profile : List Float) (m : ℕ) (x : OpticalRadius) (i : ℕ) (ws : List Float) (j : ℕ) (vs : List Float) (inside : Bool) → inside ≡ true
-    → channelSr profile m x (weightsBy inside i ws) (weightsBy inside j vs) ≡ cancelled x (tensor profile m (offsetOf i) (fourOf ws) (offsetOf j) (fourOf vs))
-unfolding weightsBy channelSr
-sr-inside profile m x i ws j vs true e = refl
-sr-inside profile m x i ws j vs false e = absurd (false≢true e)
+-- ---- rows, radiance and density
 
-pub sr-outside : (profile : List Float) (m : ℕ) (x : OpticalRadius) (i : ℕ) (ws : List Float) (j : ℕ) (vs : List Float) (inside : Bool) → inside ≡ false
-    → channelSr profile m x (weightsBy inside i ws) (weightsBy inside j vs) ≡ lit 0
-unfolding weightsBy channelSr
-sr-outside profile m x i ws j vs true e = absurd (true≢false e)
-sr-outside profile m x i ws j vs false e = refl
+pub rows-zero : ZeroOutside rowsOfBoth []
+unfolding rowsOfBoth rowsOf
+rows-zero = record { no-radius = λ w. refl; no-albedo = none }
+  where
+    none : (v : Weights) → rowsOfBoth Outside v ≡ []
+    none (At o g) = refl
+    none Outside = refl
 
--- ---- one test for both axes
+pub sr-zero : (profile : List Float) (m : ℕ) (x : OpticalRadius) → ZeroOutside (channelSr profile m x) (lit 0)
+unfolding channelSr
+sr-zero profile m x = record { no-radius = none; no-albedo = λ v. refl }
+  where
+    none : (w : Weights) → channelSr profile m x w Outside ≡ lit 0
+    none (At o f) = refl
+    none Outside = refl
 
-pub sr-both : (profile : List Float) (m : ℕ) (x : OpticalRadius) (i : ℕ) (ws : List Float) (j : ℕ) (vs : List Float) (a b : Bool)
-    → channelSr profile m x (weightsBy (a && b) i ws) (weightsBy (a && b) j vs) ≡ channelSr profile m x (weightsBy a i ws) (weightsBy b j vs)
-unfolding weightsBy channelSr
-sr-both profile m x i ws j vs true true = refl
-sr-both profile m x i ws j vs true false = refl
-sr-both profile m x i ws j vs false b = refl
+pub density-zero : (profile rhoEff : List Float) (m : ℕ) (sigmaT : Float) (x : OpticalRadius) → ZeroOutside (densityOf profile rhoEff m sigmaT x) (lit 0)
+unfolding densityOf
+density-zero profile rhoEff m sigmaT x = record { no-radius = none; no-albedo = λ v. refl }
+  where
+    none : (w : Weights) → densityOf profile rhoEff m sigmaT x w Outside ≡ lit 0
+    none (At o f) = refl
+    none Outside = refl
 
-pub rows-both : (i : ℕ) (ws : List Float) (j : ℕ) (vs : List Float) (a b : Bool) → rowsOf (weightsBy (a && b) i ws) ≡ rowsOfBoth (weightsBy a i ws) (weightsBy b j vs)
+-- ---- three channels, as the code has them
+
+pub sr-both : (profile : List Float) (m : ℕ) (x : OpticalRadius) (i : ℕ) (ws : List Float) (j : ℕ) (vs : List Float) (p q : Bool)
+    → channelSr profile m x (weightsBy (p && q) i ws) (weightsBy (p && q) j vs) ≡ channelSr profile m x (weightsBy p i ws) (weightsBy q j vs)
+unfolding weightsBy
+sr-both profile m x i ws j vs = one-test (channelSr profile m x) (lit 0) (sr-zero profile m x) _ _
+
+pub rows-both : (i : ℕ) (ws : List Float) (j : ℕ) (vs : List Float) (p q : Bool) → rowsOf (weightsBy (p && q) i ws) ≡ rowsOfBoth (weightsBy p i ws) (weightsBy q j vs)
 unfolding weightsBy rowsOf rowsOfBoth
 rows-both i ws j vs true true = refl
 rows-both i ws j vs true false = refl
