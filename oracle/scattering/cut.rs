@@ -5,7 +5,7 @@
 #[path = "../shared/cutting.rs"]
 mod cutting;
 
-use cutting::{arguments, float_type, function, item, line, methods, route, routed, source, write};
+use cutting::{arguments, float_type, function, line, methods, route, routed, source, spectrum_items, write};
 
 const HEAD: &str = "use super::StandIns;
 use std::ops::{Add, Index, Mul};
@@ -24,14 +24,6 @@ fn main() {
         line(&pbrt, "pub type Spectrum "),
         line(&pbrt, "pub const INV_4_PI:"),
         function(&pbrt, "clamp_t"),
-        "#[derive(Clone, Copy)]".to_string(),
-        item(&spectrum, "pub enum RGBEnum"),
-        "#[derive(Clone, Copy, Default)]".to_string(),
-        item(&spectrum, "pub struct RGBSpectrum"),
-        methods(&spectrum, "RGBSpectrum", &["new", "rgb", "clamp", "has_nans"]),
-        item(&spectrum, "impl Add for RGBSpectrum"),
-        item(&spectrum, "impl Mul for RGBSpectrum"),
-        item(&spectrum, "impl Index<RGBEnum> for RGBSpectrum"),
         route(&function(&medium, "phase_hg"), 1, "denom", ".sqrt()", ".stand_in_root()"),
         "pub struct Vector3f {\n    pub x: Float,\n    pub y: Float,\n    pub z: Float,\n}\n".to_string(),
         function(&reflection, "cos_theta"),
@@ -44,5 +36,5 @@ fn main() {
         methods(&bssrdf, "TabulatedBssrdf", &["sw"]),
     ];
     let known = ["stand_in_root", "stand_in_exp", "stand_in_ln", "stand_in_max", "abs", "is_nan", "has_nans"];
-    write(&output, HEAD, &items, &known);
+    write(&output, HEAD, &[spectrum_items(&spectrum), items.to_vec()].concat(), &known);
 }

@@ -128,3 +128,18 @@ pub fn write(path: &str, head: &str, items: &[String], known: &[&str]) {
         fail(format!("{}: {}", path, error));
     }
 }
+
+/// The channels and the spectrum, with the methods and operators that both its users take.
+#[allow(dead_code)]
+pub fn spectrum_items(spectrum: &str) -> Vec<String> {
+    vec![
+        "#[derive(Clone, Copy)]".to_string(),
+        item(spectrum, "pub enum RGBEnum"),
+        "#[derive(Clone, Copy, Default)]".to_string(),
+        item(spectrum, "pub struct RGBSpectrum"),
+        methods(spectrum, "RGBSpectrum", &["new", "rgb", "clamp", "has_nans"]),
+        item(spectrum, "impl Add for RGBSpectrum"),
+        item(spectrum, "impl Mul for RGBSpectrum"),
+        item(spectrum, "impl Index<RGBEnum> for RGBSpectrum"),
+    ]
+}

@@ -9,7 +9,7 @@ mod cutting;
 #[path = "../table/items.rs"]
 mod items;
 
-use cutting::{arguments, drawing, fail, function, item, line, method, methods, route, source, write};
+use cutting::{arguments, drawing, fail, function, item, line, method, methods, route, source, spectrum_items, write};
 
 const HEAD: &str = "use super::{StandIns, StandInClamp};
 use std::ops::{Add, Index, IndexMut, Mul, MulAssign};
@@ -63,15 +63,7 @@ fn main() {
         function(&pbrt, "find_interval"),
         function(&interpolation, "catmull_rom_weights"),
         drawing(&interpolation),
-        "#[derive(Clone, Copy)]".to_string(),
-        item(&spectrum, "pub enum RGBEnum"),
-        "#[derive(Clone, Copy, Default)]".to_string(),
-        item(&spectrum, "pub struct RGBSpectrum"),
-        methods(&spectrum, "RGBSpectrum", &["new", "rgb", "clamp", "has_nans"]),
-        item(&spectrum, "impl Add for RGBSpectrum"),
-        item(&spectrum, "impl Mul for RGBSpectrum"),
         item(&spectrum, "impl MulAssign for RGBSpectrum"),
-        item(&spectrum, "impl Index<RGBEnum> for RGBSpectrum"),
         item(&spectrum, "impl IndexMut<RGBEnum> for RGBSpectrum"),
         BSSRDF.to_string(),
         medium(&bssrdf),
@@ -79,5 +71,5 @@ fn main() {
     ];
     let known = ["unwrap", "first", "last", "len", "iter", "enumerate", "stand_in_abs", "stand_in_clamp"];
     let more = ["eval_profile", "is_nan", "has_nans"];
-    write(&output, HEAD, &[items::items(&sources), queries.to_vec()].concat(), &[&items::KNOWN[..], &known, &more].concat());
+    write(&output, HEAD, &[items::items(&sources), spectrum_items(&spectrum), queries.to_vec()].concat(), &[&items::KNOWN[..], &known, &more].concat());
 }
