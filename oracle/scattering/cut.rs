@@ -5,7 +5,7 @@
 #[path = "../shared/cutting.rs"]
 mod cutting;
 
-use cutting::{arguments, float_type, function, line, methods, route, routed, source, spectrum_items, write};
+use cutting::{arguments, float_type, function, line, route, routed, source, spectrum_items, surface_term, write};
 
 const HEAD: &str = "use super::StandIns;
 use std::ops::{Add, Index, Mul};
@@ -25,16 +25,14 @@ fn main() {
         line(&pbrt, "pub const INV_4_PI:"),
         function(&pbrt, "clamp_t"),
         route(&function(&medium, "phase_hg"), 1, "denom", ".sqrt()", ".stand_in_root()"),
-        "pub struct Vector3f {\n    pub x: Float,\n    pub y: Float,\n    pub z: Float,\n}\n".to_string(),
-        function(&reflection, "cos_theta"),
         routed(function(&reflection, "fr_dielectric"), 2, 0, 0, 2),
         function(&bssrdf, "fresnel_moment1"),
         function(&bssrdf, "fresnel_moment2"),
         routed(function(&bssrdf, "beam_diffusion_ms"), 3, 5, 1, 0),
         routed(function(&bssrdf, "beam_diffusion_ss"), 2, 1, 1, 0),
         "pub struct TabulatedBssrdf {\n    pub eta: Float,\n}\n".to_string(),
-        methods(&bssrdf, "TabulatedBssrdf", &["sw"]),
     ];
     let known = ["stand_in_root", "stand_in_exp", "stand_in_ln", "stand_in_max", "abs", "is_nan", "has_nans"];
-    write(&output, HEAD, &[spectrum_items(&spectrum), items.to_vec()].concat(), &known);
+    let all = [spectrum_items(&spectrum), items.to_vec(), surface_term(&reflection, &bssrdf)].concat();
+    write(&output, HEAD, &all, &known);
 }

@@ -1,19 +1,5 @@
 # The commands of oracle/NAME/run, which sets `name` and goes to the repository's root before it reads this file.
-set -e
-out=target/oracle/$name
-mkdir -p "$out"
-usage() {
-    sed -n '2,/^name=/s/^# //p' "oracle/$name/run"
-    exit 2
-}
-# build PROGRAM [FLAGS]
-build() {
-    "${RUSTC:-rustc}" --edition 2021 -O -o "$out/cut" "oracle/$name/cut.rs"
-    "$out/cut" "${RS_PBRT:-../shared/docs/src}" "$out/reference.rs"
-    program=$1
-    shift
-    REFERENCE="$PWD/$out/reference.rs" "${RUSTC:-rustc}" --edition 2021 -O "$@" -o "$out/$program" "oracle/$name/$program.rs"
-}
+. oracle/shared/building.sh
 # What is wrong in the first answer that differs.
 show() {
     line=$(diff "$out/expected" "$out/answers" | sed -n '1s/[^0-9].*//p')
@@ -34,7 +20,7 @@ case "$1 $#" in
     ;;
 "compare 3")
     build oracle
-    rt check "${name}_test" > "$out/check.log" 2>&1 || { cat "$out/check.log"; exit 1; }
+    quietly rt check "${name}_test"
     "$out/oracle" cases "$2" "$3" "$out/cases" "$out/expected"
     "target/bin/${name}_test" < "$out/cases" > "$out/answers"
     if cmp -s "$out/expected" "$out/answers"; then
@@ -45,7 +31,7 @@ case "$1 $#" in
     fi
     ;;
 "bench 1")
-    rt staticlib "${name}_native" > "$out/staticlib.log" 2>&1 || { cat "$out/staticlib.log"; exit 1; }
+    quietly rt staticlib "${name}_native"
     build bench -L target/staticlib -l "static=${name}_native"
     "$out/bench"
     ;;

@@ -143,3 +143,13 @@ pub fn spectrum_items(spectrum: &str) -> Vec<String> {
         item(spectrum, "impl Index<RGBEnum> for RGBSpectrum"),
     ]
 }
+
+/// The Fresnel term of a BSSRDF, and of a vector its fields and its cosine.
+#[allow(dead_code)]
+pub fn surface_term(reflection: &str, bssrdf: &str) -> Vec<String> {
+    vec![
+        "pub struct Vector3f {\n    pub x: Float,\n    pub y: Float,\n    pub z: Float,\n}\n".to_string(),
+        function(reflection, "cos_theta"),
+        methods(bssrdf, "TabulatedBssrdf", &["sw"]),
+    ]
+}

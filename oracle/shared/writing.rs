@@ -1,10 +1,10 @@
 //! Writes cases and answers, a line each: a word, and further words after a space each, of which numbers are 8 hexadecimal digits.
 #![allow(dead_code)]
 use std::collections::BTreeMap;
-use std::fmt::Display;
-use std::io::{BufWriter, Write};
+use std::fmt::{Display, Write as _};
+use std::io::{BufWriter, Write as _};
 
-pub struct Line(String);
+pub struct Line(pub String);
 
 impl Line {
     pub fn of(word: &str) -> Line {
@@ -13,16 +13,23 @@ impl Line {
 
     /// A space and a word of any form.
     pub fn then(mut self, word: impl Display) -> Line {
-        self.0.push_str(&format!(" {}", word));
+        // a string takes whatever is written
+        _ = write!(self.0, " {}", word);
         self
     }
 
-    pub fn word(self, n: u32) -> Line {
-        self.then(format_args!("{:08x}", n))
+    pub fn all(self, words: &[impl Display]) -> Line {
+        words.iter().fold(self, |line, word| line.then(word))
     }
 
-    pub fn length(self, list: &[f32]) -> Line {
-        self.word(list.len() as u32)
+    pub fn word(mut self, n: u32) -> Line {
+        self.0.push(' ');
+        self.0.extend((0..8).rev().map(|place| b"0123456789abcdef"[(n >> (4 * place)) as usize % 16] as char));
+        self
+    }
+
+    pub fn words(self, list: &[u32]) -> Line {
+        list.iter().fold(self, |line, word| line.word(*word))
     }
 
     pub fn floats(self, list: &[f32]) -> Line {
@@ -31,43 +38,52 @@ impl Line {
 
     /// Every NaN is 7fc00000.
     pub fn answers(self, list: &[f32]) -> Line {
-        list.iter().fold(self, |line, x| line.word(if x.is_nan() { 0x7fc00000 } else { x.to_bits() }))
+        list.iter().fold(self, |line, x| line.word(shown(*x)))
+    }
+}
+
+/// A float's bits, those of every NaN as one.
+pub fn shown(x: f32) -> u32 {
+    if x.is_nan() {
+        0x7fc00000
+    } else {
+        x.to_bits()
     }
 }
 
 /// Where cases go, each with the name of its class.
 pub type Put<'a, Case> = &'a mut dyn FnMut(&'static str, Case);
 
-fn fail(message: &str) -> ! {
+pub fn fail(message: &str) -> ! {
     eprintln!("oracle: {}", message);
     std::process::exit(1)
 }
 
-fn number(text: &str) -> u64 {
+pub fn number(text: &str) -> u64 {
     text.parse().unwrap_or_else(|_| fail(&format!("not a number: {}", text)))
 }
 
-fn file(path: &str) -> BufWriter<std::fs::File> {
+pub fn file(path: &str) -> BufWriter<std::fs::File> {
     BufWriter::new(std::fs::File::create(path).unwrap_or_else(|error| fail(&format!("{}: {}", path, error))))
 }
 
 /// How many cases of each class got what.
-type Tally<Got> = BTreeMap<&'static str, BTreeMap<Got, usize>>;
+pub type Tally<Got> = BTreeMap<&'static str, BTreeMap<Got, usize>>;
 
-fn print_row<Got: Display>(class: &str, answers: &BTreeMap<Got, usize>) {
+pub fn row<Got: Display>(class: &str, answers: &BTreeMap<Got, usize>) -> String {
     let counts: Vec<String> = answers.iter().map(|(got, count)| format!("{} {}", got, count)).collect();
-    eprintln!("{:28} {:6}: {}", class, answers.values().sum::<usize>(), counts.join(" "));
+    format!("{:28} {:6}: {}", class, answers.values().sum::<usize>(), counts.join(" "))
 }
 
-fn print_tally<Got: Copy + Ord + Display>(tally: &Tally<Got>) {
+pub fn print_tally<Got: Copy + Ord + Display>(tally: &Tally<Got>) {
     let mut all: BTreeMap<Got, usize> = BTreeMap::new();
     for (class, answers) in tally {
-        print_row(class, answers);
+        eprintln!("{}", row(class, answers));
         for (got, count) in answers {
             *all.entry(*got).or_insert(0) += count;
         }
     }
-    print_row("all", &all);
+    eprintln!("{}", row("all", &all));
 }
 
 /// The program: `vectors STDIN_FILE STDOUT_FILE` writes the stored cases and their answers, and `cases SEED COUNT STDIN_FILE

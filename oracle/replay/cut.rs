@@ -1,7 +1,7 @@
-//! Cuts a beam diffusion table, the splines and the three queries of a tabulated BSSRDF out of the sources of rs_pbrt, and writes
+//! Cuts a beam diffusion table, the splines and the queries of a tabulated BSSRDF out of the sources of rs_pbrt, and writes
 //! them to one file. Square roots, exponentials, logarithms, the maxima with 0, the absolute value that a draw takes and the clamp of
-//! a radiance go to stand-ins. Of the BSSRDF its table, sigma_t and albedo are kept; the latter two are worked out by the lines of
-//! its `new` that do so.
+//! a radiance go to stand-ins. Of the BSSRDF its eta, table, sigma_t and albedo are kept; the latter two are worked out by the lines
+//! of its `new` that do so.
 //!
 //! usage: cut SOURCES OUTPUT
 #[path = "../shared/cutting.rs"]
@@ -9,20 +9,23 @@ mod cutting;
 #[path = "../table/items.rs"]
 mod items;
 
-use cutting::{arguments, drawing, fail, function, item, line, method, methods, route, source, spectrum_items, write};
+use cutting::{
+    arguments, drawing, fail, function, item, line, method, methods, route, source, spectrum_items, surface_term, write,
+};
 
 const HEAD: &str = "use super::{StandIns, StandInClamp};
 use std::ops::{Add, Index, IndexMut, Mul, MulAssign};
 ";
 
 const BSSRDF: &str = "pub struct TabulatedBssrdf {
+    pub eta: Float,
     pub table: BssrdfTable,
     pub sigma_t: Spectrum,
     pub rho: Spectrum,
 }
 ";
 
-const MEDIUM: &str = "pub fn medium(sigma_a: &Spectrum, sigma_s: &Spectrum, table: BssrdfTable) -> TabulatedBssrdf {";
+const MEDIUM: &str = "pub fn medium(sigma_a: &Spectrum, sigma_s: &Spectrum, eta: Float, table: BssrdfTable) -> TabulatedBssrdf {";
 /// How the first of its lines begins, and the first after them, which is about the surface.
 const FIRST: &str = "        let sigma_t";
 const END: &str = "        let ns";
@@ -42,7 +45,7 @@ fn medium(bssrdf: &str) -> String {
     if lines[first - 1] != "    ) -> Self {" || end < first {
         fail("`new` was expected to begin with sigma_t".to_string());
     }
-    format!("{}\n{}\n        TabulatedBssrdf {{ table, sigma_t, rho }}\n}}\n", MEDIUM, lines[first..end].join("\n"))
+    format!("{}\n{}\n        TabulatedBssrdf {{ eta, table, sigma_t, rho }}\n}}\n", MEDIUM, lines[first..end].join("\n"))
 }
 
 /// The three queries.
@@ -58,6 +61,7 @@ fn main() {
     let spectrum = source(&sources, "spectrum");
     let interpolation = source(&sources, "interpolation");
     let bssrdf = source(&sources, "bssrdf");
+    let reflection = source(&sources, "reflection");
     let queries = [
         line(&pbrt, "pub type Spectrum "),
         function(&pbrt, "find_interval"),
@@ -71,5 +75,6 @@ fn main() {
     ];
     let known = ["unwrap", "first", "last", "len", "iter", "enumerate", "stand_in_abs", "stand_in_clamp"];
     let more = ["eval_profile", "is_nan", "has_nans"];
-    write(&output, HEAD, &[items::items(&sources), spectrum_items(&spectrum), queries.to_vec()].concat(), &[&items::KNOWN[..], &known, &more].concat());
+    let all = [items::items(&sources), spectrum_items(&spectrum), queries.to_vec(), surface_term(&reflection, &bssrdf)].concat();
+    write(&output, HEAD, &all, &[&items::KNOWN[..], &known, &more].concat());
 }

@@ -1,21 +1,9 @@
 //! Document 01's plain tally: fed an accepted start's record and the arguments of later calls, it keeps that record and a set of
 //! row numbers, and answers by the set's table. It never sees an answer, a lent list or a mark.
 use crate::calls::{self, Lists, Outcome, Record};
+use crate::store::Table;
 use crate::table::{albedos, radii};
 use std::collections::{BTreeMap, BTreeSet};
-
-/// The set's table.
-struct Table {
-    floats: [Vec<f32>; 5],
-    marks: Vec<u8>,
-}
-
-impl Table {
-    fn lists(&mut self) -> Lists<'_> {
-        let [rho_samples, radius_samples, profile, rho_eff, profile_cdf] = &mut self.floats;
-        Lists { rho_samples, radius_samples, profile, rho_eff, profile_cdf, marks: &mut self.marks }
-    }
-}
 
 /// A row's profile, effective albedo and CDF.
 type Row = (Vec<f32>, f32, Vec<f32>);
@@ -25,6 +13,7 @@ pub struct Tally {
     rows: BTreeSet<u32>,
     /// Each row that has been in the set, as the Rust makes it by itself.
     made: BTreeMap<u32, Row>,
+    /// The set's table.
     table: Table,
 }
 

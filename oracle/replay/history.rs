@@ -1,35 +1,9 @@
-//! Calls of the test program, and histories of them.
+//! Histories: calls as lines, one after the other.
 use crate::calls::{lengths, Coefficients, Record};
-use crate::lent::MARKS;
-use crate::writing;
+use crate::protocol::{line, Call, LISTS, MARKS, MOST_WORDS};
 
-pub enum Call {
-    Lens([usize; 6]),
-    Put {
-        list: usize,
-        at: usize,
-        words: Vec<u32>,
-    },
-    Fill {
-        list: usize,
-        word: u32,
-    },
-    Start(Record),
-    Build(Record, u32),
-    /// With the world radius.
-    Sr(Record, Coefficients, f32),
-    /// With the channel and the world radius.
-    Pdf(Record, Coefficients, usize, f32),
-    /// With the channel, u and the allowance.
-    Draw(Record, Coefficients, usize, f32, u32),
-    Dump,
-    List(usize),
-}
-
-pub type Put<'a> = writing::Put<'a, Call>;
-
-/// The most words that one call of `put` takes.
-const MOST_WORDS: usize = 64;
+/// Where lines go, each with the name of its class.
+pub type Put<'a> = &'a mut dyn FnMut(&'static str, &[u8]);
 
 /// Where the calls of one class go, one after the other.
 pub struct History<'a> {
@@ -38,8 +12,20 @@ pub struct History<'a> {
 }
 
 impl History<'_> {
-    fn call(&mut self, call: Call) {
-        (self.put)(self.class, call)
+    pub fn call(&mut self, call: Call) {
+        self.line(line(&call).0.as_bytes());
+    }
+
+    /// A line of any bytes.
+    pub fn line(&mut self, line: &[u8]) {
+        (self.put)(self.class, line)
+    }
+
+    /// What a run begins with: no lengths, and zeros.
+    pub fn reset(&mut self) {
+        self.lens([0; 6]);
+        self.call(Call::OwnLens([0; 4]));
+        (0..LISTS).for_each(|list| self.fill(list, 0));
     }
 
     pub fn lens(&mut self, lengths: [usize; 6]) {
@@ -103,6 +89,14 @@ impl History<'_> {
 
     pub fn list(&mut self, list: usize) {
         self.call(Call::List(list));
+    }
+
+    pub fn dump_all(&mut self) {
+        self.call(Call::DumpAll);
+    }
+
+    pub fn own_dump(&mut self) {
+        self.call(Call::OwnDump);
     }
 
     /// A start, and what it left.

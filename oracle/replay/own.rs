@@ -1,17 +1,84 @@
-//! The stored cases and the random ones.
-use crate::calls::{self, Integral, Sample, MOST_RADII, MOST_ROUNDS, MOST_ROWS};
+//! Weights, integration and 2D sampling on a caller's own lists: the stored calls and the random histories.
+use crate::calls::{MOST_RADII, MOST_ROWS};
+use crate::history::{self, History};
 use crate::lists::{nodes, spoilt, values, NODE_KINDS, SPOILT_KINDS, VALUE_KINDS};
 use crate::numbers::{about, down, nans, up, Rng, SPECIAL};
-use crate::writing;
+use crate::own_calls::{integrate, sample_2d};
+use crate::protocol::{Call, OWN};
+use crate::rounds::MOST_ROUNDS;
 
-#[derive(Clone)]
-pub enum Case {
-    Weights { nodes: Vec<f32>, x: f32 },
-    Integrate { nodes: Vec<f32>, values: Vec<f32>, cdf: Vec<f32> },
-    Sample { nodes1: Vec<f32>, nodes2: Vec<f32>, values: Vec<f32>, cdf: Vec<f32>, alpha: f32, u: f32, allowance: u32 },
+enum Case {
+    Weights {
+        nodes: Vec<f32>,
+        x: f32,
+    },
+    /// With the length of the CDF list, which holds whatever was there.
+    Integrate {
+        nodes: Vec<f32>,
+        values: Vec<f32>,
+        cdf: usize,
+    },
+    Sample(Draw),
 }
 
-type Put<'a> = writing::Put<'a, Case>;
+/// Where cases go, each with the name of its class.
+type Put<'a> = &'a mut dyn FnMut(&'static str, Case);
+
+/// What the lists are known to hold.
+#[derive(Default)]
+struct Held {
+    lengths: [usize; 4],
+    words: [Vec<u32>; 4],
+}
+
+impl Held {
+    /// Brings a list up to what it is to hold, by as few words as one stretch takes, a long list from zeros on.
+    fn list(&mut self, list: usize, floats: &[f32], history: &mut History) {
+        let known = &mut self.words[list];
+        if floats.len() > 1000 {
+            history.fill(OWN + list, 0);
+            *known = vec![0; floats.len()];
+        }
+        let words: Vec<u32> = floats.iter().map(|x| x.to_bits()).collect();
+        let other = |at: &usize| known.get(*at) != Some(&words[*at]);
+        if let (Some(first), Some(last)) = ((0..words.len()).find(other), (0..words.len()).rfind(other)) {
+            history.words(OWN + list, first, &words[first..=last]);
+        }
+        known.splice(..words.len().min(known.len()), words);
+    }
+
+    fn lengths(&mut self, lengths: [usize; 4], history: &mut History) {
+        if self.lengths != lengths {
+            self.lengths = lengths;
+            history.call(Call::OwnLens(lengths));
+        }
+    }
+
+    /// The lists of a case, and its call.
+    fn play(&mut self, case: &Case, history: &mut History) {
+        let [_, l7, l8, l9] = self.lengths;
+        match case {
+            Case::Weights { nodes, x } => {
+                self.list(0, nodes, history);
+                self.lengths([nodes.len(), l7, l8, l9], history);
+                history.call(Call::Weights(*x));
+            }
+            Case::Integrate { nodes, values, cdf } => {
+                [(0, nodes), (2, values)].into_iter().for_each(|(list, floats)| self.list(list, floats, history));
+                self.lengths([nodes.len(), l7, values.len(), *cdf], history);
+                history.call(Call::Integrate);
+                history.own_dump();
+                self.words[3].clear();
+            }
+            Case::Sample(Draw { nodes1, nodes2, values, cdf, alpha, u, allowance }) => {
+                let lists = [nodes1, nodes2, values, cdf];
+                (0..4).for_each(|list| self.list(list, lists[list], history));
+                self.lengths(lists.map(|list| list.len()), history);
+                history.call(Call::Sample2d(*alpha, *u, *allowance));
+            }
+        }
+    }
+}
 
 /// The arguments of a draw.
 #[derive(Clone)]
@@ -27,8 +94,13 @@ struct Draw {
 
 impl Draw {
     fn case(&self) -> Case {
-        let Draw { nodes1, nodes2, values, cdf, alpha, u, allowance } = self.clone();
-        Case::Sample { nodes1, nodes2, values, cdf, alpha, u, allowance }
+        Case::Sample(self.clone())
+    }
+
+    /// Another alpha and another u on the same lists.
+    fn ask_elsewhere(&mut self, rng: &mut Rng) {
+        self.alpha = if rng.chance(50) { rng.pick(&self.nodes1) } else { within(&self.nodes1, rng) };
+        self.u = if rng.chance(20) { rng.scale(-12, -1).min(1.0) } else { any_u(rng) };
     }
 
     /// Some rows of both tables with one number throughout.
@@ -40,13 +112,19 @@ impl Draw {
         }
     }
 
-    fn answer(&self) -> Sample {
-        calls::sample_2d(&self.nodes1, &self.nodes2, &self.values, &self.cdf, self.alpha, self.u, self.allowance)
+    /// How many rounds it makes, the most there are if it does not end within the allowance; none if it makes none.
+    fn rounds(&self) -> Option<u32> {
+        match sample_2d([&self.nodes1, &self.nodes2, &self.values], &self.cdf, self.alpha, self.u, self.allowance) {
+            Err(13) => Some(u32::MAX),
+            drawn => drawn.ok()?.map(|sample| sample.rounds),
+        }
     }
 }
 
-pub fn stored(put: Put) {
+pub fn stored(put: history::Put) {
     let rng = &mut Rng(20240101);
+    let held = &mut Held::default();
+    let put: Put = &mut |class, case| held.play(&case, &mut History { class, put });
     proved_table(put);
     weights_on_short_lists(rng, put);
     weights_on_long_lists(rng, put);
@@ -72,7 +150,7 @@ fn proved_table(put: Put) {
         put(class, Case::Weights { nodes: vec![0.0, 1.0, 2.0], x });
     }
     put(class, Case::Weights { nodes: vec![0.0, 1.0], x: 0.5 });
-    put(class, Case::Integrate { nodes: vec![0.0, 1.0, 2.0], values: vec![0.0, 2.0, 4.0], cdf: vec![9.0; 3] });
+    put(class, Case::Integrate { nodes: vec![0.0, 1.0, 2.0], values: vec![0.0, 2.0, 4.0], cdf: 3 });
     for (value, allowance) in [(1.0, 1), (1.0, 1000), (0.0, 20), (0.0, 21), (0.0, 1000)] {
         put(class, flat(value, allowance).case());
     }
@@ -113,7 +191,7 @@ fn points_beyond(list: &[f32]) -> Vec<f32> {
 }
 
 fn weights_on_short_lists(rng: &mut Rng, put: Put) {
-    for n in [2, 3, 4, 5, 7] {
+    for n in [2, 3, 4, 6] {
         for kind in 0..NODE_KINDS {
             let list = nodes(kind, n, rng);
             for x in points(&list, rng) {
@@ -207,15 +285,15 @@ fn integrals(rng: &mut Rng, put: Put) {
     for value_kind in 0..VALUE_KINDS {
         for node_kind in 0..NODE_KINDS {
             for n in [2 + (value_kind + node_kind) % 3, rng.between(4, 9)] {
-                let (nodes, values, cdf) = (nodes(node_kind, n, rng), values(value_kind, n, rng), values(10, n, rng));
-                put("integral, short lists", Case::Integrate { nodes, values, cdf });
+                let (nodes, values) = (nodes(node_kind, n, rng), values(value_kind, n, rng));
+                put("integral, short lists", Case::Integrate { nodes, values, cdf: n });
             }
         }
     }
     for n in [16, 33, 63, 64, 65, 127, 128] {
         for value_kind in [2, rng.below(VALUE_KINDS)] {
-            let (nodes, values, cdf) = (nodes(rng.below(3), n, rng), values(value_kind, n, rng), values(10, n, rng));
-            put("integral, long lists", Case::Integrate { nodes, values, cdf });
+            let (nodes, values) = (nodes(rng.below(3), n, rng), values(value_kind, n, rng));
+            put("integral, long lists", Case::Integrate { nodes, values, cdf: n });
         }
     }
 }
@@ -226,7 +304,7 @@ fn integrals_refused(rng: &mut Rng, put: Put) {
     for n in [0usize, 1, 129, 130] {
         for longer in 0..2 {
             let nodes = if n % 2 == 0 { nodes(0, n.max(2), rng)[..n].to_vec() } else { vec![f32::NAN; n] };
-            put(class, Case::Integrate { nodes, values: values(2, n, rng), cdf: values(10, n + longer, rng) });
+            put(class, Case::Integrate { nodes, values: values(2, n, rng), cdf: n + longer });
         }
     }
     // the other lengths, with nodes in order and not
@@ -234,14 +312,14 @@ fn integrals_refused(rng: &mut Rng, put: Put) {
         for (nv, nc) in [(n - 1, n), (n + 1, n), (n, n - 1), (n, n + 1), (n - 1, n - 1), (n + 1, n + 1), (0, n), (n, 0), (0, 0)] {
             for nodes in [nodes(0, n, rng), spoilt(nv + nc, n, rng)] {
                 if n < 128 || nodes[0] == 0.0 && nv + nc < 257 {
-                    put(class, Case::Integrate { nodes, values: values(2, nv, rng), cdf: values(10, nc, rng) });
+                    put(class, Case::Integrate { nodes, values: values(2, nv, rng), cdf: nc });
                 }
             }
         }
     }
     for kind in 0..SPOILT_KINDS {
         for n in [2, 3, 7] {
-            put(class, Case::Integrate { nodes: spoilt(kind, n, rng), values: values(10, n, rng), cdf: values(10, n, rng) });
+            put(class, Case::Integrate { nodes: spoilt(kind, n, rng), values: values(10, n, rng), cdf: n });
         }
     }
 }
@@ -252,9 +330,7 @@ fn integrals_refused(rng: &mut Rng, put: Put) {
 fn integrated(nodes2: &[f32], values: &[f32]) -> Vec<f32> {
     let mut cdf = vec![0.0; values.len()];
     for (row, out) in values.chunks(nodes2.len()).zip(cdf.chunks_mut(nodes2.len())) {
-        if let Integral::Refused(k) = calls::integrate(nodes2, row, out) {
-            panic!("a row was refused: {}", k);
-        }
+        assert!(integrate(nodes2, row, out).is_ok(), "a row was refused");
     }
     cdf
 }
@@ -370,11 +446,14 @@ fn any_allowance(rng: &mut Rng) -> u32 {
 
 fn draws_from_tables(rng: &mut Rng, put: Put) {
     for kind in 0..TABLE_KINDS {
-        for _ in 0..45 {
+        for _ in 0..15 {
             let (rows, radii) = (rng.between(2, 5), rng.between(2, 6));
             let mut draw = table(kind, rows, radii, rng);
-            draw.allowance = any_allowance(rng);
-            put(TABLE_NAMES[kind], draw.case());
+            for _ in 0..3 {
+                draw.allowance = any_allowance(rng);
+                put(TABLE_NAMES[kind], draw.case());
+                draw.ask_elsewhere(rng);
+            }
         }
     }
     for u in [0.0, -0.0, 1.0, down(1.0), 0.5, 1e-45, f32::MIN_POSITIVE] {
@@ -394,11 +473,7 @@ fn draws_by_rounds(rng: &mut Rng, put: Put) {
     for turn in 0..400_000 {
         let kind = [1, 2, 3, 5, 7, 8, 9][turn % 7];
         let mut draw = table(kind, rng.between(2, 3), rng.between(2, 4), rng);
-        let rounds = match draw.answer() {
-            Sample::At { rounds, .. } => rounds,
-            Sample::Refused(13) => u32::MAX,
-            _ => continue,
-        };
+        let Some(rounds) = draw.rounds() else { continue };
         let place = ends.iter().position(|end| rounds <= *end).unwrap_or(0);
         if wanted[place] == 0 {
             continue;
@@ -485,6 +560,9 @@ fn draws_from_large_tables(rng: &mut Rng, put: Put) {
         let mut draw = built(rows, radii, rng);
         draw.alpha = draw.nodes1[rows / 2] + (draw.nodes1[rows / 2 + rows % 2 - 1] - draw.nodes1[rows / 2]) * 0.375;
         draw.u = 0.625;
+        if rows * radii > 1000 {
+            draw.fill_rows(0.0, &|row| row.abs_diff(rows / 2) > 2);
+        }
         put("draw, large tables", draw.case());
     }
     for radii in [63, 64] {
@@ -496,13 +574,13 @@ fn draws_from_large_tables(rng: &mut Rng, put: Put) {
     }
 }
 
-/// A table of any lengths, with all else in order.
+/// A table of any lengths, with all else in order. The shorter of two begins the longer.
 fn of_lengths(rows: usize, radii: usize, nv: usize, nc: usize, rng: &mut Rng) -> Draw {
     Draw {
         nodes1: nodes(0, rows.max(2), rng)[..rows].to_vec(),
         nodes2: nodes(1, radii.max(2), rng)[..radii].to_vec(),
-        values: values(2, nv, rng),
-        cdf: values(1, nc, rng),
+        values: values(2, nv, &mut Rng(3)),
+        cdf: values(1, nc, &mut Rng(4)),
         alpha: 0.5,
         u: 0.5,
         allowance: MOST_ROUNDS,
@@ -591,12 +669,12 @@ fn with_causes(causes: usize, rng: &mut Rng) -> Draw {
 
 // ---- random cases
 
-/// A length from the least to the most, mostly a small one.
-fn any_length(least: usize, most: usize, rng: &mut Rng) -> usize {
-    if rng.chance(3) {
-        rng.between(least, most)
-    } else {
-        rng.between(least, least + 6)
+/// A number of nodes from 2 to the most, mostly a small one.
+fn any_length(most: usize, rng: &mut Rng) -> usize {
+    match rng.below(100) {
+        0 => [63, 64, 65, most - 1, most][rng.below(5)],
+        1 | 2 => rng.between(2, most),
+        _ => rng.between(2, 8),
     }
 }
 
@@ -609,7 +687,7 @@ fn any_nodes(n: usize, rng: &mut Rng) -> Vec<f32> {
 }
 
 fn any_weights(rng: &mut Rng) -> Case {
-    let n = any_length(2, MOST_ROWS, rng);
+    let n = any_length(MOST_ROWS, rng);
     let n = if rng.chance(2) { [0, 1, 129, 130][rng.below(4)] } else { n };
     let nodes = any_nodes(n, rng);
     let x = match rng.below(20) {
@@ -623,25 +701,25 @@ fn any_weights(rng: &mut Rng) -> Case {
 }
 
 fn any_integral(rng: &mut Rng) -> Case {
-    let n = any_length(2, MOST_ROWS, rng);
+    let n = any_length(MOST_ROWS, rng);
     let n = if rng.chance(2) { [0, 1, 129, 130][rng.below(4)] } else { n };
     let other = |rng: &mut Rng| if rng.chance(3) { [n + 1, n.max(1) - 1, 0][rng.below(3)] } else { n };
     let (nv, nc) = (other(rng), other(rng));
-    Case::Integrate { nodes: any_nodes(n, rng), values: values(rng.below(VALUE_KINDS), nv, rng), cdf: values(10, nc, rng) }
+    Case::Integrate { nodes: any_nodes(n, rng), values: values(rng.below(VALUE_KINDS), nv, rng), cdf: nc }
 }
 
-fn any_draw(rng: &mut Rng) -> (&'static str, Case) {
+/// A table, and where it is asked first.
+fn any_draw(rng: &mut Rng) -> (&'static str, Draw) {
     if rng.chance(5) {
-        return ("draw, several causes", with_causes(rng.below(256) & rng.below(256), rng).case());
+        return ("draw, several causes", with_causes(rng.below(256) & rng.below(256), rng));
     }
-    let (rows, radii) = if rng.below(1000) == 0 {
-        (rng.between(2, MOST_ROWS), rng.between(2, MOST_RADII))
-    } else {
-        (rng.between(2, 6), rng.between(2, 8))
+    let (rows, radii) = match rng.below(1000) {
+        0 => (rng.between(2, MOST_ROWS), rng.between(2, MOST_RADII)),
+        1 => [(MOST_ROWS, 2), (3, MOST_RADII), (64, 3), (65, 2), (MOST_ROWS, MOST_RADII)][rng.below(5)],
+        _ => (rng.between(2, 6), rng.between(2, 8)),
     };
     let kind = rng.below(TABLE_KINDS);
     let mut draw = table(kind, rows, radii, rng);
-    draw.allowance = if rng.chance(40) { any_allowance(rng) } else { MOST_ROUNDS };
     match rng.below(40) {
         0 => draw.alpha = rng.pick(&SPECIAL),
         1 => draw.alpha = up(draw.nodes1[rows - 1]),
@@ -653,19 +731,39 @@ fn any_draw(rng: &mut Rng) -> (&'static str, Case) {
         }
         _ => {}
     }
-    (TABLE_NAMES[kind], draw.case())
+    (TABLE_NAMES[kind], draw)
 }
 
-pub fn random(seed: u64, count: u64, put: Put) {
-    let rng = &mut Rng(seed);
-    for _ in 0..count {
-        match rng.below(20) {
-            0..=7 => put("weights", any_weights(rng)),
-            8..=11 => put("integral", any_integral(rng)),
-            _ => {
-                let (class, case) = any_draw(rng);
-                put(class, case)
-            }
-        }
+/// Draws from one table, with plenty of allowance, or some, or just enough, or one too few.
+fn any_draws(rng: &mut Rng, put: Put) {
+    let (class, mut draw) = any_draw(rng);
+    for _ in 0..rng.between(1, 5) {
+        put(class, draw.case());
+        draw.ask_elsewhere(rng);
+        draw.allowance = MOST_ROUNDS;
+        draw.allowance = match rng.below(10) {
+            0..=4 => MOST_ROUNDS,
+            5..=7 => any_allowance(rng),
+            less => draw.rounds().map_or(1, |rounds| rounds.min(MOST_ROUNDS) + 8 - less as u32),
+        };
+    }
+}
+
+fn any_case(rng: &mut Rng, put: Put) {
+    match rng.below(20) {
+        0..=7 => put("own, weights", any_weights(rng)),
+        8..=11 => put("own, integral", any_integral(rng)),
+        _ => any_draws(rng, put),
+    }
+}
+
+/// A few cases, with their lists shown now and then.
+pub fn random(rng: &mut Rng, put: history::Put) {
+    let held = &mut Held::default();
+    for _ in 0..rng.between(3, 12) {
+        any_case(rng, &mut |class, case| held.play(&case, &mut History { class, put }));
+    }
+    if rng.chance(20) {
+        History { class: "own, shown", put }.list(OWN + rng.below(4));
     }
 }

@@ -2,9 +2,9 @@
 use crate::aim::{alike, any_allowance, any_u, channel, coefficients, points, refused_coefficients, Aim, Channel, HUGE, TINY};
 use crate::calls::{sample_sr, Coefficients, Lists, Record};
 use crate::history::{History, Put};
-use crate::lent::{CAPACITIES, MARKS};
 use crate::lists::{nodes, values, NODE_KINDS, VALUE_KINDS};
 use crate::numbers::{down, nans, up, Rng, SPECIAL};
+use crate::protocol::{LENT_CAPACITIES, MARKS};
 use crate::rounds::MOST_ROUNDS;
 use crate::table::{albedos, radii};
 use crate::tables::{
@@ -305,6 +305,12 @@ fn by_size(put: Put) {
 
 // ---- coefficients refused
 
+/// Channels whose sums are infinite, and the nearest that are not.
+fn great_sums() -> [Channel; 6] {
+    let half = f32::from_bits(0x7effffff);
+    [(f32::MAX, f32::MAX), (f32::MAX, 1e32), (half, up(half)), (half, half), (f32::MAX, 1e30), (up(half), up(half))]
+}
+
 fn coefficients_refused(put: Put) {
     let history = &mut History { class: "coefficients refused", put };
     let r = record(2, 3, MEDIA[5]);
@@ -329,12 +335,8 @@ fn coefficients_refused(put: Put) {
         }
         history.dump();
     }
-    // sums that are infinite, and the nearest that are not
-    let half = f32::from_bits(0x7effffff);
     for ch in 0..3 {
-        for (a, s) in
-            [(f32::MAX, f32::MAX), (f32::MAX, 1e32), (half, up(half)), (half, half), (f32::MAX, 1e30), (up(half), up(half))]
-        {
+        for (a, s) in great_sums() {
             let mut channels = [channel(0.5, 1.0); 3];
             channels[ch] = (a, s);
             all_three(r, coefficients(channels), (ch + 1) % 3, middle(3), 0.5, history);
@@ -735,7 +737,7 @@ fn lengths_refused(put: Put) {
     let right = fitting_lengths(&r);
     let c = alike(channel(0.5, 1.0));
     for list in 0..6 {
-        for length in [right[list] - 1, right[list] + 1, 0, CAPACITIES[list]] {
+        for length in [right[list] - 1, right[list] + 1, 0, LENT_CAPACITIES[list]] {
             let mut lengths = right;
             lengths[list] = length;
             history.lens(lengths);
@@ -792,7 +794,7 @@ fn with_causes(query: usize, causes: &[usize], rng: &mut Rng, history: &mut Hist
     let mut lengths = fitting_lengths(&r);
     if has(5) {
         let list = rng.below(6);
-        let longer = lengths[list] == 0 || lengths[list] < CAPACITIES[list] && rng.chance(50);
+        let longer = lengths[list] == 0 || lengths[list] < LENT_CAPACITIES[list] && rng.chance(50);
         lengths[list] = if longer { lengths[list] + 1 } else { lengths[list] - 1 };
     }
     history.lens(lengths);
@@ -901,8 +903,20 @@ fn any_vanishing(rng: &mut Rng, put: Put) {
     }
 }
 
+fn any_great_sums(rng: &mut Rng, put: Put) {
+    let history = &mut History { class: "query, great sums", put };
+    let r = record(rng.between(2, 4), rng.between(2, 3), any_medium(rng));
+    whole(r, history);
+    for sums in great_sums() {
+        let mut channels = [channel(rng.unit(), 1.0); 3];
+        channels[rng.below(3)] = sums;
+        all_three(r, coefficients(channels), rng.below(3), middle(2), any_u(rng), history);
+    }
+}
+
 pub fn random(rng: &mut Rng, put: Put) {
     match rng.below(20) {
+        10 if rng.chance(20) => any_great_sums(rng, put),
         10 => any_vanishing(rng, put),
         0..=9 => any_tallied(any_record(rng), rng.between(5, 40), rng, &mut History { class: "query, started", put }),
         11..=14 => any_lists(rng, put),

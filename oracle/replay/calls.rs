@@ -1,16 +1,16 @@
-//! Document 01's five calls on lent lists: its checks, in its order, around the functions of rs_pbrt.
-use crate::rounds::{self, MOST_ROUNDS};
+//! Document 01's five calls on lent lists, and `sw`: its checks, in its order, around the functions of rs_pbrt.
+use crate::own_calls::{check_allowance, check_u, offset_and_weights};
+use crate::rounds;
 use crate::stand_ins::StandIns;
 use crate::table::in_order;
 use reference::{
-    catmull_rom_weights, compute_beam_diffusion_bssrdf, compute_nodes, compute_row, medium, BssrdfTable, RGBEnum, RGBSpectrum,
-    TabulatedBssrdf,
+    compute_beam_diffusion_bssrdf, compute_nodes, compute_row, medium, BssrdfTable, RGBEnum, RGBSpectrum, TabulatedBssrdf, Vector3f,
 };
 use std::cell::Cell;
 
 /// What cut.rs wrote.
 #[allow(dead_code, clippy::all)]
-mod reference {
+pub mod reference {
     include!(env!("REFERENCE"));
 }
 
@@ -81,7 +81,7 @@ pub struct Lists<'a> {
 /// Done, or a refusal's number.
 pub type Outcome = Result<(), u32>;
 
-fn refuse(number: u32, cause: bool) -> Outcome {
+pub fn refuse(number: u32, cause: bool) -> Outcome {
     if cause {
         Err(number)
     } else {
@@ -95,12 +95,24 @@ pub fn lengths(r: &Record) -> [u64; 6] {
     [n, m, n * m, n, n * m, n]
 }
 
+pub fn check_rows(n: usize) -> Outcome {
+    refuse(1, !(2..=MOST_ROWS).contains(&n))
+}
+
+pub fn check_radii(m: usize) -> Outcome {
+    refuse(2, !(2..=MOST_RADII).contains(&m))
+}
+
+fn check_eta(eta: f32) -> Outcome {
+    refuse(4, !(1.0 <= eta && eta <= 2.0))
+}
+
 /// Checks 1 to 5.
 fn check_sizes(r: &Record, lists: &Lists) -> Outcome {
-    refuse(1, !(2..=MOST_ROWS).contains(&(r.n as usize)))?;
-    refuse(2, !(2..=MOST_RADII).contains(&(r.m as usize)))?;
+    check_rows(r.n as usize)?;
+    check_radii(r.m as usize)?;
     refuse(3, !(-1.0 < r.g && r.g < 1.0))?;
-    refuse(4, !(1.0 <= r.eta && r.eta <= 2.0))?;
+    check_eta(r.eta)?;
     let nodes = [lists.rho_samples.len(), lists.radius_samples.len()];
     let rows = [lists.profile.len(), lists.rho_eff.len(), lists.profile_cdf.len(), lists.marks.len()];
     refuse(5, [&nodes[..], &rows[..]].concat() != lengths(r).map(|length| length as usize))
@@ -182,15 +194,13 @@ const CHANNELS: [RGBEnum; 3] = [RGBEnum::Red, RGBEnum::Green, RGBEnum::Blue];
 
 /// The BSSRDF of the Rust over what the lists hold.
 fn bssrdf(r: &Record, c: &Coefficients, lists: &Lists) -> TabulatedBssrdf {
-    medium(&RGBSpectrum { c: c.sigma_a }, &RGBSpectrum { c: c.sigma_s }, table(r, lists))
+    medium(&RGBSpectrum { c: c.sigma_a }, &RGBSpectrum { c: c.sigma_s }, r.eta, table(r, lists))
 }
 
 /// The places of nonzero weight, or none where the value is outside.
 fn places(nodes: &[f32], x: f32) -> Option<Vec<usize>> {
-    let mut offset = 0;
-    let mut weights = [0.0; 4];
-    let inside = catmull_rom_weights(nodes, x, &mut offset, &mut weights);
-    inside.then(|| (0..4).filter(|k| weights[*k] != 0.0).map(|k| (offset + k as i32) as usize).collect())
+    let (offset, weights) = offset_and_weights(nodes, x)?;
+    Some((0..4).filter(|k| weights[*k] != 0.0).map(|k| (offset + k as i32) as usize).collect())
 }
 
 /// The rows that a channel needs for its profile at a world radius: those of nonzero albedo weight, or none where the albedo or the
@@ -234,11 +244,19 @@ pub fn pdf_sr(r: &Record, c: &Coefficients, ch: usize, x: f32, lists: &Lists) ->
 pub fn sample_sr(r: &Record, c: &Coefficients, ch: usize, u: f32, allowance: u32, lists: &Lists) -> Result<(f32, u32), u32> {
     check_lists(r, lists)?;
     check_coefficients(c)?;
-    refuse(9, !(0.0..=1.0).contains(&u))?;
-    refuse(10, !(1..=MOST_ROUNDS).contains(&allowance))?;
+    check_u(u)?;
+    check_allowance(allowance)?;
     let b = bssrdf(r, c, lists);
     check_built(&needed_to_draw(&b, ch), lists)?;
     rounds::within(allowance, || b.sample_sr(CHANNELS[ch], u)).ok_or(13)
+}
+
+/// The Fresnel term, or a refusal's number.
+pub fn sw(eta: f32, cosine: f32) -> Result<[f32; 3], u32> {
+    check_eta(eta)?;
+    refuse(9, cosine.is_nan())?;
+    let black = RGBSpectrum { c: [0.0; 3] };
+    Ok(medium(&black, &black, eta, BssrdfTable::new(0, 0)).sw(&Vector3f { x: 0.0, y: 0.0, z: cosine }).c)
 }
 
 // ---- checks of the oracle itself

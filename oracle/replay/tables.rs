@@ -1,9 +1,9 @@
 //! Starting and building: the stored calls and the random histories.
 use crate::calls::{lengths, Record, MOST_RADII, MOST_ROWS};
 use crate::history::{History, Put};
-use crate::lent::{CAPACITIES, MARKS};
 use crate::lists::{nodes, spoilt, NODE_KINDS, SPOILT_KINDS};
 use crate::numbers::{down, nans, up, Rng, SPECIAL};
+use crate::protocol::{LENT_CAPACITIES, MARKS};
 use crate::table::{albedos, radii};
 
 pub fn stored(put: Put) {
@@ -176,7 +176,7 @@ fn inner_g() -> [f32; 13] {
     [up(-1.0), -0.999, -0.75, -0.5, -1e-20, -1e-45, -0.0, 0.0, f32::MIN_POSITIVE, 1e-3, 0.5, 0.999, down(1.0)]
 }
 
-fn inner_eta() -> [f32; 8] {
+pub fn inner_eta() -> [f32; 8] {
     [1.0, up(1.0), 1.0001, 1.1, 1.33, 1.5, down(2.0), 2.0]
 }
 
@@ -394,7 +394,7 @@ pub fn any_contents(r: &Record, rng: &mut Rng, history: &mut History) {
 
 /// Everything, the places beyond the lengths too.
 fn whole_capacity(history: &mut History) {
-    history.lens(CAPACITIES);
+    history.lens(LENT_CAPACITIES);
     history.dump();
 }
 
@@ -428,7 +428,7 @@ fn furnish(rng: &mut Rng, history: &mut History) {
 }
 
 fn ordered_nodes() -> [Vec<f32>; 2] {
-    [(0..CAPACITIES[0]).map(|i| i as f32 / 128.0).collect(), radii(CAPACITIES[1])]
+    [(0..LENT_CAPACITIES[0]).map(|i| i as f32 / 128.0).collect(), radii(LENT_CAPACITIES[1])]
 }
 
 fn furnish_nodes(history: &mut History) {
@@ -439,7 +439,7 @@ fn furnish_nodes(history: &mut History) {
 /// The lengths of a record, cut at the capacities.
 pub fn fitting_lengths(r: &Record) -> [usize; 6] {
     let lengths = lengths(r);
-    std::array::from_fn(|list| lengths[list].min(CAPACITIES[list] as u64) as usize)
+    std::array::from_fn(|list| lengths[list].min(LENT_CAPACITIES[list] as u64) as usize)
 }
 
 /// A build and a start that are refused, and what each left.
@@ -479,7 +479,7 @@ fn lengths_refused(rng: &mut Rng, put: Put) {
         let right = fitting_lengths(&r);
         let mut wrong = Vec::new();
         for list in 0..6 {
-            for length in [right[list] - 1, right[list] + 1, 0, CAPACITIES[list]] {
+            for length in [right[list] - 1, right[list] + 1, 0, LENT_CAPACITIES[list]] {
                 let mut lengths = right;
                 lengths[list] = length;
                 wrong.push(lengths);
@@ -551,7 +551,7 @@ fn trial(causes: usize, rng: &mut Rng) -> Trial {
     let mut lengths = fitting_lengths(&r);
     if has(5) {
         let list = rng.below(6);
-        let longer = lengths[list] == 0 || lengths[list] < CAPACITIES[list] && rng.chance(50);
+        let longer = lengths[list] == 0 || lengths[list] < LENT_CAPACITIES[list] && rng.chance(50);
         lengths[list] = if longer { lengths[list] + 1 } else { lengths[list] - 1 };
     }
     let spoiled = has(6).then(|| {
@@ -595,8 +595,8 @@ fn several_causes(rng: &mut Rng, put: Put) {
 /// The test program's own limits.
 fn beyond_the_capacity(put: Put) {
     let history = &mut History { class: "beyond the capacity", put };
-    for (list, capacity) in CAPACITIES.into_iter().enumerate() {
-        let mut lengths = CAPACITIES;
+    for (list, capacity) in LENT_CAPACITIES.into_iter().enumerate() {
+        let mut lengths = LENT_CAPACITIES;
         lengths[list] += 1;
         history.lens(lengths);
         history.dump();
@@ -616,7 +616,8 @@ fn beyond_the_capacity(put: Put) {
 /// Mostly a small table.
 fn any_size(rng: &mut Rng) -> (usize, usize) {
     match rng.below(100) {
-        0 => (rng.between(2, MOST_ROWS), rng.between(2, MOST_RADII)),
+        0 if rng.chance(50) => (rng.between(2, MOST_ROWS), rng.between(2, MOST_RADII)),
+        0 => [(MOST_ROWS, 2), (2, MOST_RADII), (MOST_ROWS, 3), (3, MOST_RADII)][rng.below(4)],
         1..=4 => (rng.between(2, MOST_ROWS), rng.between(2, 6)),
         5..=8 => (rng.between(2, 6), rng.between(2, MOST_RADII)),
         _ => (rng.between(2, 7), rng.between(2, 9)),
@@ -707,6 +708,11 @@ fn any_spoilt(rng: &mut Rng, put: Put) {
     let near = rng.pick(&nodes);
     let x = [rng.pick(&SPECIAL), down(near), near, up(near)][rng.below(4)];
     history.floats(list, place, &[x]);
+    if rng.chance(10) {
+        // last minus first is infinite
+        history.floats(list, 0, &[-3e38]);
+        history.floats(list, nodes.len() - 1, &[3e38]);
+    }
     any_steps(r, rng, history);
 }
 

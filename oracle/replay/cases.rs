@@ -1,0 +1,52 @@
+//! The stored calls and the random histories.
+use crate::history::{History, Put};
+use crate::malformed::{self, edited, EDITS};
+use crate::numbers::Rng;
+use crate::{own, points, queries, tables};
+
+pub fn stored(put: Put) {
+    tables::stored(put);
+    queries::stored(put);
+    own::stored(put);
+    points::stored(put);
+    malformed::stored(put);
+    long_histories(put);
+}
+
+/// Histories of all kinds of calls, one after the other on the same lists.
+fn long_histories(put: Put) {
+    let rng = &mut Rng(20261103);
+    for _ in 0..2 {
+        History { class: "long histories", put }.reset();
+        (0..25).for_each(|_| random(rng, &mut |_, line| put("long histories", line)));
+    }
+    all_shown(put);
+}
+
+/// A history, with lines between that are no calls, made of its own.
+pub fn random(rng: &mut Rng, put: Put) {
+    let spoil = &mut Rng(rng.next());
+    let mut with_edits = |class: &'static str, line: &[u8]| {
+        put(class, line);
+        let edit = spoil.below(EDITS.len());
+        if spoil.chance(2) && line.len() < 700 {
+            if let Some(line) = edited(edit, line, spoil) {
+                put(EDITS[edit], &line);
+            }
+        }
+    };
+    match rng.below(40) {
+        0..=7 => tables::random(rng, &mut with_edits),
+        8..=25 => queries::random(rng, &mut with_edits),
+        26..=34 => own::random(rng, &mut with_edits),
+        35..=37 => points::random(rng, &mut with_edits),
+        38 => malformed::random(rng, put),
+        _ => all_shown(put),
+    }
+}
+
+fn all_shown(put: Put) {
+    let history = &mut History { class: "all shown", put };
+    history.dump_all();
+    history.own_dump();
+}
