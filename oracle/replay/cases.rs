@@ -36,8 +36,8 @@ pub fn random(rng: &mut Rng, put: Put) {
         }
     };
     match rng.below(40) {
-        0..=7 => tables::random(rng, &mut with_edits),
-        8..=25 => queries::random(rng, &mut with_edits),
+        0..=5 => tables::random(rng, &mut with_edits),
+        6..=25 => queries::random(rng, &mut with_edits),
         26..=34 => own::random(rng, &mut with_edits),
         35..=37 => points::random(rng, &mut with_edits),
         38 => malformed::random(rng, put),

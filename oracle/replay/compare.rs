@@ -135,7 +135,7 @@ pub fn compare(program: &str, seed: u64, calls: u64, workers: u64) -> std::io::R
     let results: Vec<(Counts, Differences)> = std::thread::scope(|scope| {
         let threads: Vec<_> =
             seeds.iter().enumerate().map(|(worker, seed)| scope.spawn(move || work(program, *seed, share, worker))).collect();
-        threads.into_iter().map(|thread| thread.join().unwrap_or_else(|_| fail("a check of the oracle itself failed"))).collect()
+        threads.into_iter().map(|thread| thread.join().unwrap_or_else(|_| fail("the oracle stopped"))).collect()
     });
     for (more, differences) in results {
         counts.add(more);

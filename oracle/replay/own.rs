@@ -99,7 +99,9 @@ impl Draw {
 
     /// Another alpha and another u on the same lists.
     fn ask_elsewhere(&mut self, rng: &mut Rng) {
-        self.alpha = if rng.chance(50) { rng.pick(&self.nodes1) } else { within(&self.nodes1, rng) };
+        if self.nodes1.len() > 1 {
+            self.alpha = if rng.chance(50) { rng.pick(&self.nodes1) } else { within(&self.nodes1, rng) };
+        }
         self.u = if rng.chance(20) { rng.scale(-12, -1).min(1.0) } else { any_u(rng) };
     }
 
