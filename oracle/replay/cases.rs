@@ -15,10 +15,10 @@ pub fn stored(put: Put) {
 
 /// Histories of all kinds of calls, one after the other on the same lists.
 fn long_histories(put: Put) {
-    let rng = &mut Rng(20261103);
+    let rng = &mut Rng(20261104);
     for _ in 0..2 {
         History { class: "long histories", put }.reset();
-        (0..25).for_each(|_| random(rng, &mut |_, line| put("long histories", line)));
+        (0..20).for_each(|_| random(rng, &mut |_, line| put("long histories", line)));
     }
     all_shown(put);
 }
