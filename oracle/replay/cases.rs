@@ -10,7 +10,17 @@ pub fn stored(put: Put) {
     own::stored(put);
     points::stored(put);
     malformed::stored(put);
+    queries::touched_tables(put);
     long_histories(put);
+}
+
+/// A call, or several, that no lent list has to do with.
+fn others(rng: &mut Rng, put: Put) {
+    match rng.below(10) {
+        0..=5 => points::any(rng, put),
+        6 | 7 => own::random(rng, put),
+        _ => malformed::random(rng, put),
+    }
 }
 
 /// Histories of all kinds of calls, one after the other on the same lists.
@@ -18,7 +28,9 @@ fn long_histories(put: Put) {
     let rng = &mut Rng(20261104);
     for _ in 0..2 {
         History { class: "long histories", put }.reset();
-        (0..20).for_each(|_| random(rng, &mut |_, line| put("long histories", line)));
+        let mut long = |_: &'static str, line: &[u8]| put("long histories", line);
+        (0..10).for_each(|_| random(rng, &mut long));
+        queries::with_others_between(rng, &mut long, &mut others);
     }
     all_shown(put);
 }
@@ -29,7 +41,7 @@ pub fn random(rng: &mut Rng, put: Put) {
     let mut with_edits = |class: &'static str, line: &[u8]| {
         put(class, line);
         let edit = spoil.below(EDITS.len());
-        if spoil.chance(2) && line.len() < 700 {
+        if spoil.chance(2) {
             if let Some(line) = edited(edit, line, spoil) {
                 put(EDITS[edit], &line);
             }
@@ -37,7 +49,8 @@ pub fn random(rng: &mut Rng, put: Put) {
     };
     match rng.below(40) {
         0..=5 => tables::random(rng, &mut with_edits),
-        6..=25 => queries::random(rng, &mut with_edits),
+        6 | 7 => queries::with_others_between(rng, &mut with_edits, &mut others),
+        8..=25 => queries::random(rng, &mut with_edits),
         26..=34 => own::random(rng, &mut with_edits),
         35..=37 => points::random(rng, &mut with_edits),
         38 => malformed::random(rng, put),

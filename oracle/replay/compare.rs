@@ -55,12 +55,12 @@ fn block(run: &mut Run, rng: &mut Rng, calls: usize) -> Block {
 }
 
 /// Makes blocks until there are enough calls, and gives each to the comparison before it gives it to the program. The last line of
-/// all has no LF.
+/// all has no LF, unless it is empty: then it would be none.
 fn feed(mut input: ChildStdin, seed: u64, calls: usize, blocks: SyncSender<Arc<Block>>) -> Counts {
     let (mut run, rng) = (Run::new(), &mut Rng(seed));
     while run.counts.calls < calls {
         let mut block = block(&mut run, rng, calls);
-        if run.counts.calls >= calls {
+        if run.counts.calls >= calls && !block.text.ends_with(b"\n\n") {
             block.text.pop();
         }
         let block = Arc::new(block);

@@ -1,7 +1,7 @@
 //! Lines that are no calls, each made of a line that is one; and lines that are calls, of unusual form.
 use crate::history::{History, Put};
 use crate::numbers::Rng;
-use crate::protocol::{capacity, line, Call, LENT_CAPACITIES, LISTS, LONGEST, MARKS, MOST_WORDS, OWN, OWN_CAPACITIES};
+use crate::protocol::{capacity, line, parse, Call, LENT_CAPACITIES, LISTS, LONGEST, MARKS, MOST_WORDS, OWN, OWN_CAPACITIES};
 
 /// What can be done to any line.
 pub const EDITS: [&str; 19] = [
@@ -70,8 +70,9 @@ fn any_int(words: &Words, rng: &mut Rng) -> Option<usize> {
     (!places.is_empty()).then(|| places[rng.below(places.len())])
 }
 
-/// A line after an edit, where it has a place for that.
+/// A line after an edit, if it is a call and has a place for that.
 pub fn edited(edit: usize, line: &[u8], rng: &mut Rng) -> Option<Vec<u8>> {
+    parse(line)?;
     let mut words = words(line);
     let command = words[0].clone();
     let at = any_byte(line, rng);
@@ -267,11 +268,13 @@ fn shown(put: Put) {
     history.own_dump();
 }
 
-/// A line by itself, seldom a long one.
+/// Lines by themselves, seldom long ones.
 pub fn random(rng: &mut Rng, put: Put) {
-    let kind = rng.below(LINES.len());
-    if !(1..5).contains(&kind) || rng.chance(10) {
-        History { class: LINES[kind], put }.line(&line_of(kind, rng));
+    for _ in 0..rng.between(2, 8) {
+        let kind = rng.below(LINES.len());
+        if !(1..5).contains(&kind) || rng.chance(10) {
+            History { class: LINES[kind], put }.line(&line_of(kind, rng));
+        }
     }
     if rng.chance(20) {
         shown(put);

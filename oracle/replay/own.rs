@@ -717,7 +717,7 @@ fn any_draw(rng: &mut Rng) -> (&'static str, Draw) {
     }
     let (rows, radii) = match rng.below(1000) {
         0 => (rng.between(2, MOST_ROWS), rng.between(2, MOST_RADII)),
-        1 => [(MOST_ROWS, 2), (3, MOST_RADII), (64, 3), (65, 2), (MOST_ROWS, MOST_RADII)][rng.below(5)],
+        1..=3 => [(MOST_ROWS, 2), (3, MOST_RADII), (64, 3), (65, 2), (MOST_ROWS, MOST_RADII)][rng.below(5)],
         _ => (rng.between(2, 6), rng.between(2, 8)),
     };
     let kind = rng.below(TABLE_KINDS);

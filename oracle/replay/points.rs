@@ -114,13 +114,15 @@ fn any_logarithm(rng: &mut Rng) -> f32 {
     }
 }
 
-pub fn random(rng: &mut Rng, put: Put) {
-    for _ in 0..rng.between(5, 25) {
-        match rng.below(4) {
-            0 => History { class: "sw", put }.call(any_surface_term(rng)),
-            1 => History { class: "q", put }.call(Call::Q(rng.any())),
-            2 => History { class: "e", put }.call(Call::E(any_exponential(rng))),
-            _ => History { class: "l", put }.call(Call::L(any_logarithm(rng))),
-        }
+pub fn any(rng: &mut Rng, put: Put) {
+    match rng.below(4) {
+        0 => History { class: "sw", put }.call(any_surface_term(rng)),
+        1 => History { class: "q", put }.call(Call::Q(rng.any())),
+        2 => History { class: "e", put }.call(Call::E(any_exponential(rng))),
+        _ => History { class: "l", put }.call(Call::L(any_logarithm(rng))),
     }
+}
+
+pub fn random(rng: &mut Rng, put: Put) {
+    (0..rng.between(5, 25)).for_each(|_| any(rng, put));
 }

@@ -827,6 +827,42 @@ fn several_causes(rng: &mut Rng, put: Put) {
     }
 }
 
+/// Each list filled, and an entry of it written, after a start: from then on the lists count, and not what was built.
+pub fn touched_tables(put: Put) {
+    let history = &mut History { class: "touched tables", put };
+    let r = record(3, 3, MEDIA[1]);
+    let c = alike(channel(0.75, 1.0));
+    for list in 0..6 {
+        for word in if list == MARKS { [0, 1, 255] } else { [0, 0x3f000000, 0x7fc00000] } {
+            for filled in [true, false] {
+                whole(r, history);
+                if filled {
+                    history.fill(list, word);
+                } else {
+                    history.words(list, 2, &[word]);
+                }
+                all_three(r, c, list % 3, middle(3), 0.5, history);
+                history.build_shown(r, 1);
+                all_three(r, c, list % 3, middle(3), 0.5, history);
+            }
+        }
+    }
+}
+
+/// A small table that is started and built, and queries of it with other lines between.
+pub fn with_others_between(rng: &mut Rng, put: Put, other: &mut dyn FnMut(&mut Rng, Put)) {
+    let r = record(rng.between(2, 5), rng.between(2, 5), any_medium(rng));
+    whole(r, &mut History { class: "others between", put });
+    for _ in 0..rng.between(5, 20) {
+        other(rng, put);
+        let history = &mut History { class: "others between", put };
+        any_step(&Aim::started(r), rng, history);
+        if rng.chance(20) {
+            history.dump();
+        }
+    }
+}
+
 // ---- random histories
 
 fn any_causes(rng: &mut Rng, put: Put) {
@@ -869,6 +905,24 @@ fn any_drawn(rng: &mut Rng, put: Put) {
     }
 }
 
+/// Writes a list from outside: an entry, a mark, all entries, or a length that is put right again.
+fn touch(lengths: [usize; 6], rng: &mut Rng, history: &mut History) {
+    let list = rng.between(2, 4);
+    let mark = [1, 1, 1, 0, 2, 255][rng.below(6)];
+    match rng.below(10) {
+        0 => history.fill(list, rng.any().to_bits()),
+        1 => history.fill(MARKS, mark as u32),
+        2 => {
+            let mut other = lengths;
+            other[rng.below(6)] -= 1;
+            history.lens(other);
+            history.lens(lengths);
+        }
+        3..=5 => history.marks(rng.below(lengths[MARKS]), &[mark]),
+        _ => history.floats(list, rng.below(lengths[list]), &[rng.any()]),
+    }
+}
+
 /// A started table, some of whose lists are written between by another hand.
 fn any_touched(rng: &mut Rng, put: Put) {
     let history = &mut History { class: "query, touched table", put };
@@ -878,11 +932,8 @@ fn any_touched(rng: &mut Rng, put: Put) {
     }
     let aim = Aim::started(r);
     whole(r, history);
-    let lengths = fitting_lengths(&r);
     for _ in 0..rng.between(2, 6) {
-        let list = rng.between(2, 4);
-        history.floats(list, rng.below(lengths[list]), &[rng.any()]);
-        history.marks(rng.below(lengths[MARKS]), &[[1, 1, 1, 0, 2, 255][rng.below(6)]]);
+        touch(fitting_lengths(&r), rng, history);
         (0..4).for_each(|_| any_query(&aim, rng, history));
         history.build(r, rng.below(r.n as usize) as u32);
         any_query(&aim, rng, history);

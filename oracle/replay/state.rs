@@ -6,11 +6,10 @@ use crate::protocol::{Call, OWN};
 use crate::stand_ins;
 use crate::store::{hash, same, same_floats, words, Store, Table};
 use crate::tally::Tally;
-use crate::writing::Line;
+use crate::writing::{kind, Kind, Line};
 use std::fmt::{Display, Formatter};
 
-/// What a call got, for the summary. A row that is built counts by its profile: as one with a NaN, else with an infinity, else as
-/// zeros, else as one of numbers. Values count in the same way; a draw that makes no round counts by itself.
+/// What a call got, for the summary. A row that is built counts by what its profile is; a draw that makes no round counts by itself.
 #[derive(Clone, Copy, PartialEq, Eq, PartialOrd, Ord)]
 pub enum What {
     Ok,
@@ -23,14 +22,6 @@ pub enum What {
     Refused(u32),
 }
 
-#[derive(Clone, Copy, PartialEq, Eq, PartialOrd, Ord)]
-pub enum Kind {
-    Numbers,
-    Zeros,
-    Infinities,
-    Nans,
-}
-
 impl Display for What {
     fn fmt(&self, f: &mut Formatter) -> std::fmt::Result {
         match self {
@@ -38,23 +29,11 @@ impl Display for What {
             What::Bad => write!(f, "bad"),
             What::Shown => write!(f, "shown"),
             What::Done => write!(f, "done"),
-            What::Value(kind) => write!(f, "{}", ["value", "value-0", "value-inf", "value-NaN"][*kind as usize]),
+            What::Value(kind) => write!(f, "{}", kind),
             What::NoRound => write!(f, "no-round"),
             What::Outside => write!(f, "outside"),
             What::Refused(k) => write!(f, "r{}", k),
         }
-    }
-}
-
-fn kind(list: &[f32]) -> Kind {
-    if list.iter().any(|x| x.is_nan()) {
-        Kind::Nans
-    } else if list.iter().any(|x| x.is_infinite()) {
-        Kind::Infinities
-    } else if list.iter().all(|x| *x == 0.0) {
-        Kind::Zeros
-    } else {
-        Kind::Numbers
     }
 }
 

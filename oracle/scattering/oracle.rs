@@ -32,16 +32,12 @@ mod writing;
 
 use calls::{Answer, Case};
 use std::fmt::{Display, Formatter};
-use writing::Line;
+use writing::{kind, Kind, Line};
 
-/// What a case got, for the summary: a spectrum counts as a NaN if a channel is one, else as infinite if one is, and as zero if all
-/// are.
+/// What a case got, for the summary.
 #[derive(Clone, Copy, PartialEq, Eq, PartialOrd, Ord)]
 enum Got {
-    Value,
-    Zero,
-    Infinity,
-    Nan,
+    Value(Kind),
     Yes,
     No,
     Refused(u32),
@@ -50,26 +46,11 @@ enum Got {
 impl Display for Got {
     fn fmt(&self, f: &mut Formatter) -> std::fmt::Result {
         match self {
-            Got::Value => write!(f, "value"),
-            Got::Zero => write!(f, "zero"),
-            Got::Infinity => write!(f, "infinity"),
-            Got::Nan => write!(f, "NaN"),
+            Got::Value(kind) => write!(f, "{}", kind),
             Got::Yes => write!(f, "yes"),
             Got::No => write!(f, "no"),
             Got::Refused(k) => write!(f, "r{}", k),
         }
-    }
-}
-
-fn got(floats: &[f32]) -> Got {
-    if floats.iter().any(|x| x.is_nan()) {
-        Got::Nan
-    } else if floats.iter().any(|x| x.is_infinite()) {
-        Got::Infinity
-    } else if floats.iter().all(|x| *x == 0.0) {
-        Got::Zero
-    } else {
-        Got::Value
     }
 }
 
@@ -79,7 +60,7 @@ fn line(case: &Case) -> Line {
 
 fn answer(case: &Case) -> (Line, Got) {
     match calls::answer(case) {
-        Answer::Floats(floats) => (Line::of("v").answers(&floats), got(&floats)),
+        Answer::Floats(floats) => (Line::of("v").answers(&floats), Got::Value(kind(&floats))),
         Answer::Truth(true) => (Line::of("v").word(1), Got::Yes),
         Answer::Truth(false) => (Line::of("v").word(0), Got::No),
         Answer::Refused(k) => (Line::of("r").word(k), Got::Refused(k)),

@@ -1,7 +1,7 @@
 //! Writes cases and answers, a line each: a word, and further words after a space each, of which numbers are 8 hexadecimal digits.
 #![allow(dead_code)]
 use std::collections::BTreeMap;
-use std::fmt::{Display, Write as _};
+use std::fmt::{Display, Formatter, Write as _};
 use std::io::{BufWriter, Write as _};
 
 pub struct Line(pub String);
@@ -48,6 +48,33 @@ pub fn shown(x: f32) -> u32 {
         0x7fc00000
     } else {
         x.to_bits()
+    }
+}
+
+/// What floats are, for a summary: with a NaN, else with an infinity, else all zeros, else numbers.
+#[derive(Clone, Copy, PartialEq, Eq, PartialOrd, Ord)]
+pub enum Kind {
+    Numbers,
+    Zeros,
+    Infinities,
+    Nans,
+}
+
+impl Display for Kind {
+    fn fmt(&self, f: &mut Formatter) -> std::fmt::Result {
+        write!(f, "{}", ["value", "value-0", "value-inf", "value-NaN"][*self as usize])
+    }
+}
+
+pub fn kind(list: &[f32]) -> Kind {
+    if list.iter().any(|x| x.is_nan()) {
+        Kind::Nans
+    } else if list.iter().any(|x| x.is_infinite()) {
+        Kind::Infinities
+    } else if list.iter().all(|x| *x == 0.0) {
+        Kind::Zeros
+    } else {
+        Kind::Numbers
     }
 }
 
