@@ -292,7 +292,7 @@ fn integrals(rng: &mut Rng, put: Put) {
             }
         }
     }
-    for n in [16, 33, 63, 64, 65, 127, 128] {
+    for n in [16, 33, 64, 127, 128] {
         for value_kind in [2, rng.below(VALUE_KINDS)] {
             let (nodes, values) = (nodes(rng.below(3), n, rng), values(value_kind, n, rng));
             put("integral, long lists", Case::Integrate { nodes, values, cdf: n });
@@ -558,7 +558,7 @@ fn draws_at_the_ends(rng: &mut Rng, put: Put) {
 }
 
 fn draws_from_large_tables(rng: &mut Rng, put: Put) {
-    for (rows, radii) in [(128, 2), (2, 64), (3, 64), (127, 2), (65, 3), (5, 63), (20, 20), (128, 64)] {
+    for (rows, radii) in [(128, 2), (2, 64), (127, 2), (65, 3), (5, 63), (128, 64)] {
         let mut draw = built(rows, radii, rng);
         draw.alpha = draw.nodes1[rows / 2] + (draw.nodes1[rows / 2 + rows % 2 - 1] - draw.nodes1[rows / 2]) * 0.375;
         draw.u = 0.625;
@@ -568,8 +568,8 @@ fn draws_from_large_tables(rng: &mut Rng, put: Put) {
         put("draw, large tables", draw.case());
     }
     for radii in [63, 64] {
+        let mut draw = built(2, radii, rng);
         for u in [0.0, 0.125, 0.9375, 1.0] {
-            let mut draw = built(2, radii, rng);
             draw.u = u;
             put("draw, large tables", draw.case());
         }
