@@ -72,12 +72,15 @@ fn exponentials(rng: &mut Rng, put: Put) {
     }
 }
 
+/// The only two arguments at which the last term of L's sum, 1/31, changes the result.
+const LAST_TERM: [f32; 2] = [f32::from_bits(0x3f7fffd8), f32::from_bits(0x3f7ffff4)];
+
 fn logarithms(rng: &mut Rng, put: Put) {
     let history = &mut History { class: "l", put };
     let built = (0..100).map(|i| 1.0 - (i as f32 + 0.5) / 100.0);
     let spread = exponents(rng).into_iter().take(130).map(f32::from_bits);
     let ends = [f32::MIN_POSITIVE, 1.0, 0.5, 0.70710678].into_iter().flat_map(|x| about(x, 2));
-    edges().into_iter().chain(built).chain(spread).chain(ends).for_each(|x| history.call(Call::L(x)));
+    edges().into_iter().chain(built).chain(spread).chain(ends).chain(LAST_TERM).for_each(|x| history.call(Call::L(x)));
 }
 
 // ---- random ones
