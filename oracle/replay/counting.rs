@@ -1,7 +1,7 @@
 //! A run of lines, and what is counted of it.
 use crate::cover::Cover;
 use crate::malformed::{EDITS, LINES};
-use crate::protocol::{name, of_document, parse};
+use crate::protocol::{name, parse, OFFERED, OTHERS};
 use crate::state::{bad, State, What};
 use crate::writing::{row, Line, Tally};
 use std::collections::BTreeMap;
@@ -54,6 +54,16 @@ impl Counts {
         self.classes.get(class).map_or(0, |answers| answers.values().sum())
     }
 
+    /// The calls that were not made, and their refusals that were not given.
+    fn missing_calls(&self) -> Vec<String> {
+        let calls = self.by_call();
+        let got = |call: &str, k: u32| calls.get(call).is_some_and(|answers| answers.contains_key(&What::Refused(k)));
+        let names = OTHERS.into_iter().chain(OFFERED.map(|(call, _)| call));
+        let refusals = OFFERED.iter().flat_map(|(call, numbers)| numbers.iter().map(move |k| (*call, *k)));
+        let unmade = names.filter(|call| !calls.contains_key(call)).map(str::to_string);
+        unmade.chain(refusals.filter(|(call, k)| !got(call, *k)).map(|(call, k)| format!("{} refused {}", call, k))).collect()
+    }
+
     /// The calls by what they got, the classes of calls, and those of which there was none.
     pub fn summary(&self) -> String {
         let mut lines: Vec<String> = self.by_call().iter().map(|(call, answers)| row(call, answers)).collect();
@@ -62,7 +72,7 @@ impl Counts {
         lines.push("classes of calls:".to_string());
         lines.extend(self.cover.lines());
         lines.push(format!("forms of lines: {}", counts.join(", ")));
-        let mut missing = self.cover.missing();
+        let mut missing = [self.missing_calls(), self.cover.missing()].concat();
         missing.extend(forms.filter(|(_, count)| *count == 0).map(|(form, _)| form.to_string()));
         lines.push(format!("not covered: {}", if missing.is_empty() { "none".to_string() } else { missing.join("; ") }));
         lines.join("\n")
@@ -93,7 +103,7 @@ impl Run {
             None => ("no call", bad()),
         };
         counts.lines += 1;
-        counts.calls += of_document(name) as usize;
+        counts.calls += OFFERED.iter().any(|(offered, _)| *offered == name) as usize;
         *counts.classes.entry(class).or_default().entry(Got(name, answer.what)).or_insert(0) += 1;
         answer.line
     }

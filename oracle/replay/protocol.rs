@@ -215,10 +215,22 @@ pub fn name(call: &Call) -> &'static str {
     }
 }
 
-/// Whether a call of this name is one of document 01.
-pub fn of_document(name: &str) -> bool {
-    ["start", "build", "sr", "pdf", "draw", "sw", "weights", "integrate", "sample2d", "q", "e", "l"].contains(&name)
-}
+/// The names of the calls that are not document 01's, and of those that are, with the numbers that refuse them.
+pub const OTHERS: [&str; 8] = ["lens", "ownlens", "put", "fill", "dump", "owndump", "list", "dumpall"];
+pub const OFFERED: [(&str, &[u32]); 12] = [
+    ("start", &[1, 2, 3, 4, 5]),
+    ("build", &[1, 2, 3, 4, 5, 6, 7]),
+    ("sr", &[1, 2, 3, 4, 5, 6, 8, 11, 12]),
+    ("pdf", &[1, 2, 3, 4, 5, 6, 8, 11]),
+    ("draw", &[1, 2, 3, 4, 5, 6, 8, 9, 10, 11, 13]),
+    ("sw", &[4, 9]),
+    ("weights", &[1, 6]),
+    ("integrate", &[1, 5, 6]),
+    ("sample2d", &[1, 2, 5, 6, 9, 10, 13]),
+    ("q", &[]),
+    ("e", &[]),
+    ("l", &[]),
+];
 
 fn with_record(line: Line, r: &Record) -> Line {
     line.then(r.n).then(r.m).floats(&[r.g, r.eta])

@@ -4,7 +4,7 @@ use crate::calls::{sample_sr, Coefficients, Lists, Record};
 use crate::history::{History, Put};
 use crate::lists::{nodes, values, NODE_KINDS, VALUE_KINDS};
 use crate::numbers::{down, nans, up, Rng, SPECIAL};
-use crate::protocol::{LENT_CAPACITIES, MARKS};
+use crate::protocol::{LENT_CAPACITIES, MARKS, OFFERED};
 use crate::rounds::MOST_ROUNDS;
 use crate::table::{albedos, radii};
 use crate::tables::{
@@ -751,11 +751,14 @@ fn lengths_refused(put: Put) {
 }
 
 /// The numbers that each query can be refused with.
-const CAUSES: [&[usize]; 3] = [&[1, 2, 3, 4, 5, 6, 8, 11, 12], &[1, 2, 3, 4, 5, 6, 8, 11], &[1, 2, 3, 4, 5, 6, 8, 9, 10, 11, 13]];
+fn causes_of(query: usize) -> &'static [u32] {
+    let name = ["sr", "pdf", "draw"][query];
+    OFFERED.into_iter().find(|(offered, _)| *offered == name).map_or(&[], |(_, causes)| causes)
+}
 
 /// A query of a kind that is refused for these causes, on lists that are put right again where they are spoilt.
-fn with_causes(query: usize, causes: &[usize], rng: &mut Rng, history: &mut History) {
-    let has = |number: usize| causes.contains(&number);
+fn with_causes(query: usize, causes: &[u32], rng: &mut Rng, history: &mut History) {
+    let has = |number: u32| causes.contains(&number);
     let (n, m) = (rng.between(3, 5), rng.between(3, 5));
     let aim = aim(&albedos(n), &radii(m));
     let mut own = Own::of(&aim, 2, rng);
@@ -815,7 +818,8 @@ fn with_causes(query: usize, causes: &[usize], rng: &mut Rng, history: &mut Hist
 /// Each cause, and each two, so that the order of the checks shows.
 fn several_causes(rng: &mut Rng, put: Put) {
     let history = &mut History { class: "query, several causes", put };
-    for (query, causes) in CAUSES.into_iter().enumerate() {
+    for query in 0..3 {
+        let causes = causes_of(query);
         with_causes(query, &[], rng, history);
         for (k, cause) in causes.iter().enumerate() {
             with_causes(query, &[*cause], rng, history);
@@ -869,7 +873,7 @@ fn any_causes(rng: &mut Rng, put: Put) {
     let history = &mut History { class: "query, causes", put };
     for _ in 0..3 {
         let query = rng.below(3);
-        let some: Vec<usize> = CAUSES[query].iter().copied().filter(|_| rng.chance(20)).collect();
+        let some: Vec<u32> = causes_of(query).iter().copied().filter(|_| rng.chance(20)).collect();
         with_causes(query, &some, rng, history);
         history.dump();
     }
