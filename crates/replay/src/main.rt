@@ -24,21 +24,21 @@
 // words of 8 hexadecimal digits, the bits of a float (every NaN is written as 7fc00000) or the value
 // of a mark. A call that is refused answers refused and the number. A line of any other form, or of
 // more than 2,000 bytes, answers bad and changes nothing. oracle/README.md tells the rest.
-mod commands;
 mod lent;
-mod lists;
-mod output;
-mod own;
-mod words;
 
 ghost use Prim.Native.Nat.{_≤_};
 ghost use lib.ListN.{length};
-use commands::Command;
 use libc::STDIN_FILENO;
-use lists::CELLS;
-use lists::RADII;
-use lists::ROWS;
-use output::OUT;
+use protocol::commands;
+use protocol::commands::Command;
+use protocol::lists;
+use protocol::lists::CELLS;
+use protocol::lists::RADII;
+use protocol::lists::ROWS;
+use protocol::output;
+use protocol::output::OUT;
+use protocol::own;
+use protocol::words;
 
 // The most bytes of a line.
 const LONGEST: usize = 2000;
