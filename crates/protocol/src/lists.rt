@@ -3,8 +3,10 @@
 ghost use Prim.Native.Nat.{_≤_};
 ghost use lib.ListN.{length, take};
 ghost use mathlib.Core.Path.{_≡_};
+use crate::commands::Command;
 use crate::output;
 use crate::output::OUT;
+use crate::words;
 
 // The capacities: of the lists with an entry for each albedo, of the radius nodes, and of the lists
 // with an entry for each of both.
@@ -29,7 +31,7 @@ pub fn within_marks(n: usize, list: &[u8]) -> usize
 }
 
 // Stores words from a place on, if they end within the list: whether they do.
-pub fn put_floats(list: &mut [f32], at: usize, words: &[u32]) -> bool {
+fn put_floats(list: &mut [f32], at: usize, words: &[u32]) -> bool {
     let n = words.len();
     if list.len() < at {
         return false;
@@ -54,7 +56,7 @@ fn are_bytes(words: &[u32]) -> bool {
     true
 }
 
-pub fn put_marks(list: &mut [u8], at: usize, words: &[u32]) -> bool {
+fn put_marks(list: &mut [u8], at: usize, words: &[u32]) -> bool {
     let n = words.len();
     if list.len() < at {
         return false;
@@ -72,7 +74,7 @@ pub fn put_marks(list: &mut [u8], at: usize, words: &[u32]) -> bool {
 }
 
 // Fills a list, if the value is one of its kind: whether it is.
-pub fn fill_floats(list: &mut [f32], bits: u32) -> bool {
+fn fill_floats(list: &mut [f32], bits: u32) -> bool {
     let n = list.len();
     let x = elementary::bits_to_float(bits);
     for i in 0..n {
@@ -81,7 +83,7 @@ pub fn fill_floats(list: &mut [f32], bits: u32) -> bool {
     true
 }
 
-pub fn fill_marks(list: &mut [u8], bits: u32) -> bool {
+fn fill_marks(list: &mut [u8], bits: u32) -> bool {
     if bits > 255 {
         return false;
     }
@@ -115,6 +117,93 @@ pub fn show_marks(list: &[u8], n: usize, out: &mut [u8; OUT], at: usize) -> usiz
         place = output::word(out, place, wide(list[i]));
     }
     place
+}
+
+fn head(out: &mut [u8; OUT], at: usize, number: u32) -> usize {
+    let place = output::text(out, at, b"list");
+    output::int(out, place, number)
+}
+
+fn list_floats(number: u32, list: &[f32], n: usize, out: &mut [u8; OUT], at: usize) -> usize {
+    let place = head(out, at, number);
+    let last = show_floats(list, n, out, place);
+    output::end(out, last)
+}
+
+fn list_marks(number: u32, list: &[u8], n: usize, out: &mut [u8; OUT], at: usize) -> usize {
+    let place = head(out, at, number);
+    let last = show_marks(list, n, out, place);
+    output::end(out, last)
+}
+
+// ---- the calls about one list: `put`, `fill` and `list`
+
+// The most words of their lines: the list's number, a place or a value, and 64 entries.
+pub const WORDS: usize = 66;
+
+// Reads the words, and answers the place after the entries, which begin at place 2. It is below 2
+// or above WORDS where the line is not of its form.
+pub fn read_words(command: Command, line: &[u8], end: usize, words: &mut [u32]) -> usize {
+    match command {
+        Command::Put => {
+            let count = words::read(
+                line,
+                end,
+                b"iibbbbbbbbbbbbbbbbbbbbbbbbbbbbbbbbbbbbbbbbbbbbbbbbbbbbbbbbbbbbbbbbbbbb",
+                words,
+            );
+            if count < 3 { 0 } else { count }
+        }
+        Command::Fill => {
+            if words::is_read(line, end, b"ib", words) {
+                2
+            } else {
+                0
+            }
+        }
+        _ => {
+            if words::is_read(line, end, b"i", words) {
+                2
+            } else {
+                0
+            }
+        }
+    }
+}
+
+// Answers one of these calls about a list of floats, by its number, the second word and the entries.
+pub fn answer_floats(
+    command: Command,
+    number: u32,
+    second: u32,
+    entries: &[u32],
+    list: &mut [f32],
+    n: usize,
+    out: &mut [u8; OUT],
+    at: usize,
+) -> usize {
+    match command {
+        Command::Put => output::fit(out, at, put_floats(list, words::size(second), entries)),
+        Command::Fill => output::fit(out, at, fill_floats(list, second)),
+        _ => list_floats(number, list, n, out, at),
+    }
+}
+
+pub fn answer_marks(
+    command: Command,
+    number: u32,
+    second: u32,
+    entries: &[u32],
+    list: &mut [u8],
+    n: usize,
+    out: &mut [u8; OUT],
+    at: usize,
+) -> usize {
+    match command {
+        Command::Put => output::fit(out, at, put_marks(list, words::size(second), entries)),
+        Command::Fill => output::fit(out, at, fill_marks(list, second)),
+        _ => list_marks(number, list, n, out, at),
+    }
 }
 
 // ---- the hash: FNV-1a of 64 bits

@@ -35,6 +35,7 @@ use protocol::lists;
 use protocol::lists::CELLS;
 use protocol::lists::RADII;
 use protocol::lists::ROWS;
+use protocol::lists::WORDS;
 use protocol::output;
 use protocol::output::OUT;
 use protocol::own;
@@ -46,134 +47,51 @@ const LONGEST: usize = 2000;
 // The bytes that are read at a time.
 const IN: usize = 65536;
 
-// The most words of a `put`, with the list and the place.
-const PUT: usize = 66;
-
-// ---- the calls that may be about any list
-
-fn answer_put(
-    line: &[u8],
-    end: usize,
-    rho: &mut [f32],
-    radii: &mut [f32],
-    profile: &mut [f32],
-    eff: &mut [f32],
-    cdf: &mut [f32],
-    marks: &mut [u8],
-    nodes1: &mut [f32],
-    nodes2: &mut [f32],
-    values: &mut [f32],
-    own_cdf: &mut [f32],
-    out: &mut [u8; OUT],
-    at: usize,
-) -> usize {
-    let mut words = [0u32; PUT];
-    let count = words::read(
-        line,
-        end,
-        b"iibbbbbbbbbbbbbbbbbbbbbbbbbbbbbbbbbbbbbbbbbbbbbbbbbbbbbbbbbbbbbbbbbbbb",
-        &mut words,
-    );
-    if count < 3 {
-        return output::bad(out, at);
-    }
-    if count > PUT {
-        return output::bad(out, at);
-    }
-    let list = words[0];
-    let place = words::size(words[1]);
-    let first = 2;
-    let stored = &words[first..count];
-    match list {
-        0 => output::fit(out, at, lists::put_floats(rho, place, stored)),
-        1 => output::fit(out, at, lists::put_floats(radii, place, stored)),
-        2 => output::fit(out, at, lists::put_floats(profile, place, stored)),
-        3 => output::fit(out, at, lists::put_floats(eff, place, stored)),
-        4 => output::fit(out, at, lists::put_floats(cdf, place, stored)),
-        5 => output::fit(out, at, lists::put_marks(marks, place, stored)),
-        6 => output::fit(out, at, lists::put_floats(nodes1, place, stored)),
-        7 => output::fit(out, at, lists::put_floats(nodes2, place, stored)),
-        8 => output::fit(out, at, lists::put_floats(values, place, stored)),
-        9 => output::fit(out, at, lists::put_floats(own_cdf, place, stored)),
-        _ => output::bad(out, at),
-    }
-}
-
-fn answer_fill(
-    line: &[u8],
-    end: usize,
-    rho: &mut [f32],
-    radii: &mut [f32],
-    profile: &mut [f32],
-    eff: &mut [f32],
-    cdf: &mut [f32],
-    marks: &mut [u8],
-    nodes1: &mut [f32],
-    nodes2: &mut [f32],
-    values: &mut [f32],
-    own_cdf: &mut [f32],
-    out: &mut [u8; OUT],
-    at: usize,
-) -> usize {
-    let mut words = [0u32; 2];
-    if !words::is_read(line, end, b"ib", &mut words) {
-        return output::bad(out, at);
-    }
-    match words[0] {
-        0 => output::fit(out, at, lists::fill_floats(rho, words[1])),
-        1 => output::fit(out, at, lists::fill_floats(radii, words[1])),
-        2 => output::fit(out, at, lists::fill_floats(profile, words[1])),
-        3 => output::fit(out, at, lists::fill_floats(eff, words[1])),
-        4 => output::fit(out, at, lists::fill_floats(cdf, words[1])),
-        5 => output::fit(out, at, lists::fill_marks(marks, words[1])),
-        6 => output::fit(out, at, lists::fill_floats(nodes1, words[1])),
-        7 => output::fit(out, at, lists::fill_floats(nodes2, words[1])),
-        8 => output::fit(out, at, lists::fill_floats(values, words[1])),
-        9 => output::fit(out, at, lists::fill_floats(own_cdf, words[1])),
-        _ => output::bad(out, at),
-    }
-}
+// ---- the calls about one list
 
 fn answer_list(
+    command: Command,
     line: &[u8],
     end: usize,
     lens: &[usize; 10],
-    rho: &[f32],
-    radii: &[f32],
-    profile: &[f32],
-    eff: &[f32],
-    cdf: &[f32],
-    marks: &[u8],
-    nodes1: &[f32],
-    nodes2: &[f32],
-    values: &[f32],
-    own_cdf: &[f32],
+    rho: &mut [f32; ROWS],
+    radii: &mut [f32; RADII],
+    profile: &mut [f32; CELLS],
+    eff: &mut [f32; ROWS],
+    cdf: &mut [f32; CELLS],
+    marks: &mut [u8; ROWS],
+    nodes1: &mut [f32; ROWS],
+    nodes2: &mut [f32; ROWS],
+    values: &mut [f32; CELLS],
+    own_cdf: &mut [f32; CELLS],
     out: &mut [u8; OUT],
     at: usize,
 ) -> usize {
-    let mut words = [0u32; 1];
-    if !words::is_read(line, end, b"i", &mut words) {
+    let mut words = [0u32; WORDS];
+    let count = lists::read_words(command, line, end, &mut words);
+    let first = 2;
+    if count < 2 {
         return output::bad(out, at);
     }
-    let list = words[0];
-    if list > 9 {
+    if count > WORDS {
         return output::bad(out, at);
     }
-    let name = output::text(out, at, b"list");
-    let place = output::int(out, name, list);
-    let last = match list {
-        0 => lists::show_floats(rho, lens[0], out, place),
-        1 => lists::show_floats(radii, lens[1], out, place),
-        2 => lists::show_floats(profile, lens[2], out, place),
-        3 => lists::show_floats(eff, lens[3], out, place),
-        4 => lists::show_floats(cdf, lens[4], out, place),
-        5 => lists::show_marks(marks, lens[5], out, place),
-        6 => lists::show_floats(nodes1, lens[6], out, place),
-        7 => lists::show_floats(nodes2, lens[7], out, place),
-        8 => lists::show_floats(values, lens[8], out, place),
-        _ => lists::show_floats(own_cdf, lens[9], out, place),
-    };
-    output::end(out, last)
+    let number = words[0];
+    let second = words[1];
+    let entries = &words[first..count];
+    match number {
+        0 => lists::answer_floats(command, number, second, entries, rho, lens[0], out, at),
+        1 => lists::answer_floats(command, number, second, entries, radii, lens[1], out, at),
+        2 => lists::answer_floats(command, number, second, entries, profile, lens[2], out, at),
+        3 => lists::answer_floats(command, number, second, entries, eff, lens[3], out, at),
+        4 => lists::answer_floats(command, number, second, entries, cdf, lens[4], out, at),
+        5 => lists::answer_marks(command, number, second, entries, marks, lens[5], out, at),
+        6 => lists::answer_floats(command, number, second, entries, nodes1, lens[6], out, at),
+        7 => lists::answer_floats(command, number, second, entries, nodes2, lens[7], out, at),
+        8 => lists::answer_floats(command, number, second, entries, values, lens[8], out, at),
+        9 => lists::answer_floats(command, number, second, entries, own_cdf, lens[9], out, at),
+        _ => output::bad(out, at),
+    }
 }
 
 // ---- hashes, and the lent lists whole
@@ -281,39 +199,8 @@ fn answer_line(
     match command {
         Command::Lens => lent::answer_lens(line, end, lens, out, at),
         Command::Ownlens => own::answer_ownlens(line, end, lens, out, at),
-        Command::Put => answer_put(
-            line,
-            end,
-            rho,
-            radii,
-            profile,
-            eff,
-            cdf,
-            marks,
-            nodes1,
-            nodes2,
-            values,
-            own_cdf,
-            out,
-            at,
-        ),
-        Command::Fill => answer_fill(
-            line,
-            end,
-            rho,
-            radii,
-            profile,
-            eff,
-            cdf,
-            marks,
-            nodes1,
-            nodes2,
-            values,
-            own_cdf,
-            out,
-            at,
-        ),
-        Command::List => answer_list(
+        Command::Put | Command::Fill | Command::List => answer_list(
+            command,
             line,
             end,
             lens,
