@@ -24,13 +24,12 @@
 // words of 8 hexadecimal digits, the bits of a float (every NaN is written as 7fc00000) or the value
 // of a mark. A call that is refused answers refused and the number. A line of any other form, or of
 // more than 2,000 bytes, answers bad and changes nothing. oracle/README.md tells the rest.
-mod lent;
-
 ghost use Prim.Native.Nat.{_≤_};
 ghost use lib.ListN.{length};
 use libc::STDIN_FILENO;
 use protocol::commands;
 use protocol::commands::Command;
+use protocol::lent;
 use protocol::lists;
 use protocol::lists::CELLS;
 use protocol::lists::RADII;

@@ -1,16 +1,16 @@
 // The calls on the six lent lists: albedo nodes, radius nodes, profile, effective albedos, CDF and
 // marks. `lens` holds the lengths of these lists, and after them those of the own lists.
+use crate::commands::Command;
+use crate::lists::CELLS;
+use crate::lists::RADII;
+use crate::lists::ROWS;
+use crate::lists::within;
+use crate::lists::within_marks;
+use crate::output;
+use crate::output::OUT;
+use crate::words;
 use bssrdf::Coefficients;
 use bssrdf::WorldRadius;
-use protocol::commands::Command;
-use protocol::lists::CELLS;
-use protocol::lists::RADII;
-use protocol::lists::ROWS;
-use protocol::lists::within;
-use protocol::lists::within_marks;
-use protocol::output;
-use protocol::output::OUT;
-use protocol::words;
 use scattering::RGBEnum;
 use scattering::Spectrum;
 use table::Outcome;
