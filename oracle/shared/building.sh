@@ -1,4 +1,5 @@
-# How the oracles are built. Whoever reads this file sets `name` and goes to the repository's root before.
+# How the oracles are built. Whoever reads this file sets `name` and goes to the repository's root before. `cut` names the program that
+# cuts out the Rust's items, where it is another's.
 set -e
 out=target/oracle/$name
 mkdir -p "$out"
@@ -8,7 +9,7 @@ usage() {
 }
 # build PROGRAM [FLAGS]
 build() {
-    "${RUSTC:-rustc}" --edition 2021 -O -o "$out/cut" "oracle/$name/cut.rs"
+    "${RUSTC:-rustc}" --edition 2021 -O -o "$out/cut" "${cut:-oracle/$name/cut.rs}"
     "$out/cut" "${RS_PBRT:-../shared/docs/src}" "$out/reference.rs"
     program=$1
     shift

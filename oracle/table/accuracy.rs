@@ -4,7 +4,7 @@
 //! and the two numbers there. Each query is asked of both tables, each time by the functions that made it.
 #[path = "../shared/numbers.rs"]
 mod numbers;
-#[path = "../shared/rounds.rs"]
+#[path = "../replay/rounds.rs"]
 mod rounds;
 #[path = "../shared/stand_ins.rs"]
 mod stand_ins;
@@ -123,7 +123,7 @@ macro_rules! reference {
                 let lists = [t.profile.clone(), t.rho_eff.clone(), t.profile_cdf.clone()];
                 let mut answers = Vec::new();
                 for q in questions {
-                    let b = medium(&RGBSpectrum { c: q.sigma_a }, &RGBSpectrum { c: q.sigma_s }, t);
+                    let b = medium(&RGBSpectrum { c: q.sigma_a }, &RGBSpectrum { c: q.sigma_s }, r.eta, t);
                     let channel = [RGBEnum::Red, RGBEnum::Green, RGBEnum::Blue][q.channel];
                     answers.push(Answer {
                         radiance: b.sr(q.radius).c,
