@@ -23,7 +23,7 @@
 // is the allowance. Lengths, places, N, M, ROW, CH, A, offsets and rounds are decimal; all else is
 // words of 8 hexadecimal digits, the bits of a float (every NaN is written as 7fc00000) or the value
 // of a mark. A call that is refused answers refused and the number. A line of any other form, or of
-// more than 2,000 bytes, answers bad and changes nothing. oracle/README.md tells the rest.
+// more than 2,000 bytes, answers bad and changes nothing. docs/PROTOCOL.md tells the rest.
 ghost use Prim.Native.Nat.{_≤_};
 ghost use lib.ListN.{length};
 use libc::STDIN_FILENO;
