@@ -2,9 +2,12 @@
 //! which a stand-in is defined, any NaN equal to any NaN. A distance is in units in the last place; two zeros are 0 apart, and
 //! infinity is one beyond the largest number. On Linux std takes the exponential and the logarithm from the C library, which may
 //! choose their bodies by the processor.
+#[path = "../shared/places.rs"]
+mod places;
 #[path = "../shared/stand_ins.rs"]
 mod stand_ins;
 
+use places::place;
 use std::ops::RangeInclusive;
 
 const THREADS: u64 = 2;
@@ -36,16 +39,6 @@ impl Found {
     fn with(self, later: Found) -> Found {
         let worse = if later.most > self.most || self.differ == 0 { later } else { self };
         Found { differ: self.differ + later.differ, ..worse }
-    }
-}
-
-/// Numbers in the order of their values.
-fn place(x: f32) -> i64 {
-    let size = (x.to_bits() & 0x7fffffff) as i64;
-    if x.is_sign_negative() {
-        -size
-    } else {
-        size
     }
 }
 

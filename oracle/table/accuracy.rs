@@ -4,6 +4,8 @@
 //! and the two numbers there. Each query is asked of both tables, each time by the functions that made it.
 #[path = "../shared/numbers.rs"]
 mod numbers;
+#[path = "../shared/places.rs"]
+mod places;
 #[path = "../replay/rounds.rs"]
 mod rounds;
 #[path = "../shared/stand_ins.rs"]
@@ -14,6 +16,7 @@ mod std_functions;
 mod table;
 
 use numbers::Rng;
+use places::place;
 use rounds::{counted_abs, MOST_ROUNDS};
 use table::radii;
 
@@ -166,16 +169,6 @@ struct Found {
     units: Greatest,
     relative: Greatest,
     above: [u64; LIMITS.len()],
-}
-
-/// Numbers in the order of their values.
-fn place(x: f32) -> i64 {
-    let size = (x.to_bits() & 0x7fffffff) as i64;
-    if x.is_sign_negative() {
-        -size
-    } else {
-        size
-    }
 }
 
 impl Found {
