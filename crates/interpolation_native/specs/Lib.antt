@@ -1,2 +1,0 @@
--- The definition that the contracts of `interpolation_native` cite.
-pub mod Total

@@ -1,2 +1,0 @@
--- The law that both proofs cite.
-pub mod Numbers
