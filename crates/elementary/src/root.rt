@@ -25,9 +25,10 @@ fn by_digits(n: u64) -> u64
     g
 }
 
-// As a rule the whole number nearest to the root of n, and nothing rests on it. Half the bits of t
-// and a constant are a root good to one digit, a step of Halley's method makes it good to five, and
-// one of Heron's to ten. The last sum has the nearest whole number for its last digits.
+// As a rule the whole number nearest to the root of n, and nothing rests on it. A constant less half
+// the bits of t is one over the root, give or take a seventh; a step of Newton's method, with numbers
+// chosen for the least error, makes a root good to three digits, and one of Halley's to ten. The
+// last sum has the nearest whole number for its last digits.
 fn guess(n: u64) -> u64
     requires { ⌜ n < 2 ^ 48 ⌝ }
 {
@@ -35,10 +36,10 @@ fn guess(n: u64) -> u64
     if t != t {
         return 0;
     }
-    let a = f64::from_bits(f64::to_bits(t) % 0x8000_0000_0000_0000 / 2 + 0x1ff7_a3be_a91d_9b1b);
+    let y = f64::from_bits(0x5fe3_ffff_2000_0000 - f64::to_bits(t) % 0x8000_0000_0000_0000 / 2);
+    let a = 0.703952253 * y * t * (2.38924456 - t * (y * y));
     let square = a * a;
-    let b = a * (square + 3.0 * t) / (3.0 * square + t);
-    let w = 0.5 * (b + t / b) + 4503599627370496.0;
+    let w = a * (square + 3.0 * t) / (3.0 * square + t) + 4503599627370496.0;
     if w != w {
         return 0;
     }

@@ -1,4 +1,4 @@
--- `elementary::root::guess` is safe: n is small enough for the casts, half a pattern and the constant stay below the patterns of NaNs, and the bits are read of what is no NaN. Assumes nothing.
+-- `elementary::root::guess` is safe: n is small enough for the casts, the constant less half a pattern stays below the patterns of NaNs, and the bits are read of what is no NaN. Assumes nothing.
 use mathlib.Core.Path.{sym, subst}
 use Prim.Native.Nat.{_^_, _<_}
 use native.Mathlib.Omega.{arith}
@@ -20,8 +20,8 @@ int-to-float-t c =
     let h : n < 2 ^ 63 = omega arith in
     subst (λ (z : ℤ). T (inFloat binary64 z)) (sym (toZ-pos w64 h)) (le→leb n (2 ^ 53) (omega arith))
 
-float-from-bits-a : tie.Need-float-from-bits-a
-float-from-bits-a c = no-nan binary64 _ (omega arith)
+float-from-bits-y : tie.Need-float-from-bits-y
+float-from-bits-y c = no-nan binary64 _ (omega arith)
 
 pub guess-spec : {M : Type 1} → statement M
 guess-spec =
@@ -32,7 +32,7 @@ guess-spec =
     (λ c. search needs)
     (λ c. equals-itself _ (c .if1 .left))
     (λ c. search needs)
-    float-from-bits-a
+    float-from-bits-y
     (λ c. search needs)
     (λ c. equals-itself _ (c .if2 .left))
     (λ c. search needs))
