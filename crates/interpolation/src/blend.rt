@@ -1,13 +1,12 @@
 // The columns of a table, blended over four rows, as `interpolate` of `sample_catmull_rom_2d` does.
 ghost use mathlib.Core.Path.{_≡_};
 ghost use mathlib.Core.Bool.{false};
-ghost use Prim.Native.Nat.{_+_, _-_, _*_, _≤_, _<_};
+ghost use Prim.Native.Nat.{_+_, _-_, _*_, _≤_, _<_, min};
 ghost use lib.ListN.{length};
 ghost use lib.Ieee.{eq};
 ghost use Rattle.elementary.specs.Notation.{lit};
 ghost use Rattle.interpolation.specs.Weights.{offsetOf};
 ghost use Rattle.interpolation.specs.Blend.{InTable, addRow, interpolate, blendInterval};
-use crate::interval::clamp_index;
 use crate::weights::Four;
 
 // The value with one row's part, which is read only where the weight w is not zero. Rows count
@@ -34,6 +33,21 @@ pub fn blend(table: &[f32], m: usize, i: usize, four: Four, col: usize) -> f32
     let v1 = add_row(table, m, i + 1, col, four.w1, v0);
     let v2 = add_row(table, m, i + 2, col, four.w2, v1);
     add_row(table, m, i + 3, col, four.w3, v2)
+}
+
+// `clamp_t(first - 1, 0, size - 2)`.
+fn clamp_index(first: usize, size: usize) -> usize
+    requires { ⌜ 2 ≤ size ⌝ }
+    ensures { λ r. ⌜ r ≡ min (first - 1) (size - 2) ⌝ }
+{
+    if first == 0 {
+        return 0;
+    }
+    if size - 2 < first - 1 {
+        size - 2
+    } else {
+        first - 1
+    }
 }
 
 // `find_interval` over the blended columns: the interval that holds u, from 0 to m less 2.

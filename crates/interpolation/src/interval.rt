@@ -1,40 +1,28 @@
 // `find_interval` of pbrt.rs over a node list.
+ghost use mathlib.Core.Bool.{true};
 ghost use mathlib.Core.Path.{_≡_};
-ghost use Prim.Native.Nat.{_-_, _≤_, min};
+ghost use Prim.Native.Nat.{_≤_};
 ghost use lib.ListN.{length};
 ghost use Rattle.interpolation.specs.Interval.{nodeInterval};
+ghost use Rattle.interpolation.specs.Nodes.{nodesOk};
 
-// `clamp_t(first - 1, 0, size - 2)`.
-pub fn clamp_index(first: usize, size: usize) -> usize
-    requires { ⌜ 2 ≤ size ⌝ }
-    ensures { λ r. ⌜ r ≡ min (first - 1) (size - 2) ⌝ }
-{
-    if first == 0 {
-        return 0;
-    }
-    if size - 2 < first - 1 {
-        size - 2
-    } else {
-        first - 1
-    }
-}
-
-// The interval of the nodes that holds x, from 0 to the number of nodes less 2.
+// The interval of the nodes that holds x, from 0 to the number of nodes less 2. The nodes increase,
+// so it is one less than the number of nodes at or below x. The last node is not counted, since no
+// interval begins there. No early exit, so that several nodes are compared at once.
 pub fn find_interval(nodes: &[f32], x: f32) -> usize
-    requires { ⌜ 2 ≤ length (now nodes) ⌝ }
+    requires { ⌜ (2 ≤ length (now nodes)) × (length (now nodes) ≤ 0x8000_0000) ⌝ }
+    requires { ⌜ nodesOk (now nodes) ≡ true ⌝ }
     ensures { λ r. ⌜ r ≡ nodeInterval (now (nodes .entry)) x ⌝ }
 {
-    let mut first = 0usize;
-    let mut len = nodes.len();
-    while len > 0 {
-        let half = len / 2;
-        let middle = first + half;
-        if nodes[middle] <= x {
-            first = middle + 1;
-            len -= half + 1;
-        } else {
-            len = half;
+    let n = nodes.len() - 1;
+    let mut count = 0u32;
+    let mut i = 0usize;
+    while i < n {
+        let node = nodes[i];
+        i += 1;
+        if node <= x {
+            count += 1;
         }
     }
-    clamp_index(first, nodes.len())
+    if count == 0 { 0 } else { (count - 1) as usize }
 }

@@ -1,7 +1,9 @@
 // `sample_catmull_rom_2d` of interpolation.rs.
+ghost use mathlib.Core.Bool.{true};
 ghost use mathlib.Core.Path.{_≡_};
 ghost use Prim.Native.Nat.{_+_, _-_, _*_, _≤_, _<_};
 ghost use lib.ListN.{length};
+ghost use Rattle.interpolation.specs.Nodes.{nodesOk};
 ghost use Rattle.interpolation.specs.Weights.{offsetOf};
 ghost use Rattle.interpolation.specs.Slope as Slope;
 ghost use Rattle.interpolation.specs.Blend.{InTable, interpolate};
@@ -143,6 +145,7 @@ pub fn sample_catmull_rom_2d(
     allowance: u32,
 ) -> Sample
     requires { ⌜ (2 ≤ length (now nodes1)) × (length (now nodes1) ≤ 0x8000_0000) × (2 ≤ length (now nodes2)) ⌝ }
+    requires { ⌜ nodesOk (now nodes1) ≡ true ⌝ }
     requires { ⌜ length (now values) ≡ length (now nodes1) * length (now nodes2) ⌝ }
     requires { ⌜ length (now cdf) ≡ length (now nodes1) * length (now nodes2) ⌝ }
     ensures { λ r. ⌜ r ≡ Spec.sampleCatmullRom2d (now (nodes1 .entry)) (now (nodes2 .entry)) (now (values .entry)) (now (cdf .entry)) alpha u allowance ⌝ }

@@ -1,7 +1,9 @@
 // `catmull_rom_weights` of interpolation.rs.
+ghost use mathlib.Core.Bool.{true};
 ghost use mathlib.Core.Path.{_≡_};
 ghost use Prim.Native.Nat.{_+_, _≤_, _<_};
 ghost use lib.ListN.{length};
+ghost use Rattle.interpolation.specs.Nodes.{nodesOk};
 ghost use Rattle.interpolation.specs.Weights.{catmullRomWeights, fourAt, offsetOf, within};
 use crate::interval::find_interval;
 
@@ -78,6 +80,7 @@ fn offset_of(i: usize) -> i32
 // The offset and the weights at x. An offset is an `i32`, so the nodes are at most 2^31.
 pub fn catmull_rom_weights(nodes: &[f32], x: f32) -> Weights
     requires { ⌜ (2 ≤ length (now nodes)) × (length (now nodes) ≤ 0x8000_0000) ⌝ }
+    requires { ⌜ nodesOk (now nodes) ≡ true ⌝ }
     ensures { λ r. ⌜ r ≡ catmullRomWeights (now (nodes .entry)) x ⌝ }
 {
     if is_within(nodes, x) {

@@ -1,4 +1,5 @@
--- `interpolation::blend::find_blend_interval` meets its contract, by the laws of `bisect` that serve `find_interval` too. Assumes nothing.
+-- `interpolation::blend::find_blend_interval` meets its contract. The invariant: what is left to bisect lies within the columns, and bisecting it gives what bisecting them all gives. The measure is `len`.
+-- Assumes nothing.
 use borrow.Author.Needs.{needs}
 use mathlib.Core.Path.{_≡_, refl, _∙_}
 use Prim.Native.Nat.{_+_, _≤_}

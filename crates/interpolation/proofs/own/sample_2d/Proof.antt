@@ -5,7 +5,7 @@ use lib.Dec.{lit≤}
 use Rattle.interpolation.specs.Checks.{maxRows}
 use Rattle.interpolation.specs.Own as Own
 use Rattle.answers.proofs.Refusals.{nothing, refuses, answers}
-use Rattle.interpolation.proofs.Refusals.{sample-sizes}
+use Rattle.interpolation.proofs.Refusals.{sample-sizes, sample-accepted}
 use Rattle.interpolation.proofs.own.sample_2d.Statement.{statement}
 use Rattle.interpolation.proofs.own.sample_2d.Tie as tie
 
@@ -16,8 +16,9 @@ returns c = rw (← c .before .sample-number .ensures, refuses _ _ (c .if1 .take
 sample-catmull-rom-2d-requires : tie.Need-sample-catmull-rom-2d-requires
 unfolding maxRows
 sample-catmull-rom-2d-requires c κs =
-    let sizes = sample-sizes _ _ _ _ _ _ (nothing _ _ (c .before .sample-number .ensures) (c .if1 .left)) in
-    ((sizes .rows .0, le-trans (sizes .rows .1) (lit≤ tt), sizes .radii .0), (sizes .values-fit, sizes .cdf-fits))
+    let none = nothing _ _ (c .before .sample-number .ensures) (c .if1 .left) in
+    let sizes = sample-sizes _ _ _ _ _ _ none in
+    ((sizes .rows .0, le-trans (sizes .rows .1) (lit≤ tt), sizes .radii .0), (sample-accepted _ _ _ _ _ _ none .0, (sizes .values-fit, sizes .cdf-fits)))
 
 returns-2 : tie.Need-returns-2
 unfolding Own.sample2d

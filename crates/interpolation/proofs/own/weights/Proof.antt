@@ -7,7 +7,7 @@ use mir.Facts.{toZ-ofZ}
 use Rattle.interpolation.specs.Checks.{maxRows}
 use Rattle.interpolation.specs.Own as Own
 use Rattle.answers.proofs.Refusals.{nothing, refuses, answers}
-use Rattle.interpolation.proofs.Refusals.{weights-rows}
+use Rattle.interpolation.proofs.Refusals.{weights-rows, weights-accepted}
 use Rattle.interpolation.proofs.own.weights.Statement.{statement}
 use Rattle.interpolation.proofs.own.weights.Tie as tie
 
@@ -18,8 +18,9 @@ returns c = rw (← c .before .weights-number .ensures, refuses _ _ (c .if1 .tak
 catmull-rom-weights-requires : tie.Need-catmull-rom-weights-requires
 unfolding maxRows
 catmull-rom-weights-requires c κs =
-    let rows = weights-rows _ (nothing _ _ (c .before .weights-number .ensures) (c .if1 .left)) in
-    (rows .0, le-trans (rows .1) (lit≤ tt))
+    let none = nothing _ _ (c .before .weights-number .ensures) (c .if1 .left) in
+    let rows = weights-rows _ none in
+    ((rows .0, le-trans (rows .1) (lit≤ tt)), weights-accepted _ none)
 
 returns-2 : tie.Need-returns-2
 unfolding Own.weightsTold Own.weights Own.weightsValue

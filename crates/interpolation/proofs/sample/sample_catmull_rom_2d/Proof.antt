@@ -23,7 +23,7 @@ draw-requires c κs =
     let nodes1 = start .args .nodes1 .now in
     let reached = rw (← c .four-at .ensures) at (reach nodes1 (start .args .alpha) (found .find-interval .result) (inside found)) in (
       (start .pre .0 .2, omega (arith, inside found, start .pre)),
-      (in-table (start .args .values .now) (length nodes1) _ _ _ reached (start .pre .1 .0), in-table (start .args .cdf .now) (length nodes1) _ _ _ reached (start .pre .1 .1)),
+      (in-table (start .args .values .now) (length nodes1) _ _ _ reached (start .pre .1 .1 .0), in-table (start .args .cdf .now) (length nodes1) _ _ _ reached (start .pre .1 .1 .1)),
     )
 
 returns : tie.Need-returns

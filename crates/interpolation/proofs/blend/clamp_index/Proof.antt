@@ -1,7 +1,7 @@
--- `interpolation::interval::clamp_index` meets its contract. Assumes nothing.
+-- `interpolation::blend::clamp_index` meets its contract. Assumes nothing.
 use native.Mathlib.Omega.{arith}
-use Rattle.interpolation.proofs.interval.clamp_index.Statement.{statement}
-use Rattle.interpolation.proofs.interval.clamp_index.Tie as tie
+use Rattle.interpolation.proofs.blend.clamp_index.Statement.{statement}
+use Rattle.interpolation.proofs.blend.clamp_index.Tie as tie
 
 pub clamp-index-spec : {M : Type 1} → statement M
 clamp-index-spec =
