@@ -12,7 +12,7 @@ use lib.Ieee.Fits.{cond-fits, mul-fits, div-fits}
 use lib.Ieee.Bits.{ofBits-fits}
 use Rattle.elementary.specs.Notation.{_⊘_, lit}
 use Rattle.answers.proofs.Refusals.{first-none}
-use Rattle.interpolation.specs.Nodes.{finite}
+use Rattle.interpolation.specs.Nodes.{finite, nodesOk}
 use Rattle.interpolation.specs.Checks.{maxRows, maxRadii}
 use Rattle.interpolation.specs.Interval.{nodeInterval}
 use Rattle.interpolation.specs.Weights.{weightAt, fourAt}
@@ -76,6 +76,13 @@ module _ (r : Record) (t : Lists) (c : Coefficients) (h : queryNumber r t c ≡ 
   pub few-radii : length (t .radiusSamples) ≤ 0x8000_0000
   unfolding maxRadii
   few-radii = let a = query-accepted .sizes in omega (arith, a .fits .radius-fits, a .range .radii .1)
+
+  -- what the search asks of an axis
+  pub rows-searched : ((2 ≤ length (t .rhoSamples)) × (length (t .rhoSamples) ≤ 0x8000_0000)) × (nodesOk (t .rhoSamples) ≡ true)
+  rows-searched = ((two-rows, few-rows), query-accepted .rho-ok)
+
+  pub radii-searched : ((2 ≤ length (t .radiusSamples)) × (length (t .radiusSamples) ≤ 0x8000_0000)) × (nodesOk (t .radiusSamples) ≡ true)
+  radii-searched = ((two-radii, few-radii), query-accepted .radii-ok)
 
   pub rho-bounded : NodesHold t → (ch : RGBEnum) (o : ℤ) (f : Four) → albedoWeights t c ch ≡ At o f → Bounded f
   unfolding albedoWeights

@@ -4,8 +4,9 @@ ghost use Prim.Native.Nat.{ℕ, _+_, _≤_, _<_};
 ghost use lib.ListN.{length, getD};
 ghost use lib.Ieee.{nan};
 ghost use Rattle.interpolation.specs.Interval.{nodeInterval};
-ghost use mathlib.Core.Bool.{_&&_};
+ghost use mathlib.Core.Bool.{true, _&&_};
 ghost use mathlib.Core.List.{[], _∷_};
+ghost use Rattle.interpolation.specs.Nodes.{nodesOk};
 ghost use Rattle.interpolation.specs.Weights.{fourAt, within};
 ghost use Rattle.bssrdf.specs.Coefficients.{optical};
 ghost use Rattle.bssrdf.specs.Axes.{threeOf, listOfFour, fourOf, threeWeights};
@@ -59,7 +60,8 @@ pub fn are_inside(
 
 // The interval of each of three values among the nodes.
 pub fn intervals(nodes: &[f32], xs: [f32; 3]) -> [usize; 3]
-    requires { ⌜ 2 ≤ length (now nodes) ⌝ }
+    requires { ⌜ (2 ≤ length (now nodes)) × (length (now nodes) ≤ 0x8000_0000) ⌝ }
+    requires { ⌜ nodesOk (now nodes) ≡ true ⌝ }
     ensures { λ y. ⌜ y ≡ threeOf (λ k. nodeInterval (now (nodes .entry)) (getD xs k nan)) ⌝ }
 {
     [

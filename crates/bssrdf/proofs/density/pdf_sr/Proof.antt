@@ -25,7 +25,7 @@ use Rattle.bssrdf.specs.Needed.{allMarked, weightedRows, pdfRows}
 use Rattle.bssrdf.specs.Checks.{queryNumber}
 use Rattle.bssrdf.specs.Density as Spec
 use Rattle.bssrdf.specs.declared.coefficients.OpticalRadius.{OpticalRadius}
-use Rattle.bssrdf.proofs.AcceptedQueries.{query-accepted, two-rows, two-radii, rho-reach, few-rows, few-radii}
+use Rattle.bssrdf.proofs.AcceptedQueries.{query-accepted, two-rows, two-radii, rho-reach, few-rows, few-radii, rows-searched, radii-searched}
 use Rattle.bssrdf.proofs.Answering.{refused-before, row-missing, none-left, not-true, not-false}
 use Rattle.bssrdf.proofs.OneChannel.{rows-inside, rows-outside, density-inside, density-outside}
 use Rattle.bssrdf.proofs.ThreeChannels.{interval-in}
@@ -166,11 +166,11 @@ pdf-sr-spec =
     (λ c κs. search needs)
     (λ c κs. (two-albedos (c .before .before .before .before), two-optical (c .before .before .before .before)))
     returns-2
-    (λ c κs. two-albedos (c .before .before .before .before .before .before))
+    (λ c κs. rows-searched _ _ _ (accepted (c .before .before .before .before .before .before)))
     (λ c κs. omega (arith, in-rows c))
     are-marked-requires
     returns-3
-    (λ c κs. two-optical (c .before .before .before .before .before .before .before .before .before .before))
+    (λ c κs. radii-searched _ _ _ (accepted (c .before .before .before .before .before .before .before .before .before .before)))
     (λ c κs. omega (arith, in-radii c))
     inside-density-requires
     returns-4)

@@ -22,7 +22,7 @@ use Rattle.bssrdf.specs.Coefficients as Coefficients
 use Rattle.bssrdf.specs.Needed.{allMarked, weightedRows, sampleRows}
 use Rattle.bssrdf.specs.Checks.{queryNumber, drawNumber}
 use Rattle.bssrdf.specs.Drawing as Spec
-use Rattle.bssrdf.proofs.AcceptedQueries.{query-accepted, two-rows, two-radii, rho-reach, few-rows}
+use Rattle.bssrdf.proofs.AcceptedQueries.{query-accepted, two-rows, two-radii, rho-reach, few-rows, rows-searched}
 use Rattle.bssrdf.proofs.Answering.{refused-before, row-missing, none-left, not-true, not-false}
 use Rattle.bssrdf.proofs.OneChannel.{clear-rows, clear-drawn, drawn-rows, drawn-inside, drawn-outside}
 use Rattle.bssrdf.proofs.ThreeChannels.{interval-in}
@@ -164,7 +164,7 @@ sample-sr-spec =
     (λ c κs. two-albedos (c .before .before .before .before))
     (λ c κs. search needs)
     returns-3
-    (λ c κs. two-albedos (c .before .before .before .before .before .before))
+    (λ c κs. rows-searched _ _ _ (accepted (c .before .before .before .before .before .before)))
     (λ c κs. omega (arith, in-rows c))
     are-marked-requires
     returns-4

@@ -21,7 +21,7 @@ use Rattle.bssrdf.specs.Needed.{allMarked, srRows}
 use Rattle.bssrdf.specs.Checks.{queryNumber, check12}
 use Rattle.bssrdf.specs.Radiance as Spec
 use Rattle.bssrdf.specs.Laws.{NodesHold}
-use Rattle.bssrdf.proofs.AcceptedQueries.{two-rows, two-radii, few-rows, few-radii}
+use Rattle.bssrdf.proofs.AcceptedQueries.{two-rows, two-radii, few-rows, few-radii, rows-searched, radii-searched}
 use Rattle.bssrdf.proofs.Answering.{refused-before, row-missing, one-left, not-true, not-false}
 use Rattle.bssrdf.proofs.ThreeChannels.{Albedos, Radii, inside-k, marks-reach, readable, rows-are, channel-are}
 use Rattle.bssrdf.proofs.radiance.sr.Statement.{statement}
@@ -152,11 +152,11 @@ sr-spec =
     (λ c κs. search needs)
     (λ c κs. search needs)
     (λ c κs. (two-albedos (c .before .before .before .before), two-optical (c .before .before .before .before)))
-    (λ c κs. two-albedos (c .before .before .before .before .before))
+    (λ c κs. rows-searched _ _ _ (accepted (c .before .before .before .before .before)))
     three-weights-requires
     are-ready-requires
     returns-2
-    (λ c κs. two-optical (c .before .before .before .before .before .before .before .before .before))
+    (λ c κs. radii-searched _ _ _ (accepted (c .before .before .before .before .before .before .before .before .before)))
     three-weights-requires-2
     three-channels-requires
     (λ c κs. search needs)
