@@ -1,5 +1,7 @@
 -- The laws of queries.
 
+-- check 8
+pub mod FiniteSums
 -- weights and rows
 pub mod Products
 pub mod Cells

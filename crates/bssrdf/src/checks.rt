@@ -1,44 +1,35 @@
 // The checks of document 01's table that concern queries alone, and the checks that a query makes
 // before 11. Each gives its number, or 0 where it refuses nothing.
+ghost use mathlib.Core.Bool.{_&&_};
 ghost use mathlib.Core.Path.{_≡_};
+ghost use Rattle.elementary.specs.Notation.{_⊕_};
 ghost use Rattle.interpolation.specs.Nodes.{finite};
 ghost use Rattle.table.specs.Parameters.{lists};
 ghost use Rattle.bssrdf.specs.Checks as Checks;
 use crate::coefficients::Coefficients;
 use interpolation::checks::check_allowance;
 use interpolation::checks::check_u;
-use interpolation::nodes::is_finite;
-use scattering::Spectrum;
 use table::Lengths;
 use table::Record;
 use table::checks::table_number;
 
-// Whether v is a number from 0 on.
-fn coefficient_ok(v: f32) -> bool
-    ensures { λ y. ⌜ y ≡ Checks.coefficientOk v ⌝ }
+// Whether a channel's coefficients are numbers from 0 on and their sum is finite. Where both are from
+// 0 on, so that neither is a NaN, a sum below infinity says that they are finite too.
+fn channel_ok(sigma_a: f32, sigma_s: f32) -> bool
+    ensures { λ y. ⌜ y ≡ (Checks.coefficientOk «sigma_a» && Checks.coefficientOk «sigma_s» && finite («sigma_a» ⊕ «sigma_s»)) ⌝ }
 {
-    (0.0 <= v) & is_finite(v)
-}
-
-fn coefficients_ok(s: Spectrum) -> bool
-    ensures { λ y. ⌜ y ≡ Checks.eachChannel Checks.coefficientOk s ⌝ }
-{
-    coefficient_ok(s.r) & coefficient_ok(s.g) & coefficient_ok(s.b)
-}
-
-fn are_finite(s: Spectrum) -> bool
-    ensures { λ y. ⌜ y ≡ Checks.eachChannel finite s ⌝ }
-{
-    is_finite(s.r) & is_finite(s.g) & is_finite(s.b)
+    (0.0 <= sigma_a) & (0.0 <= sigma_s) & (sigma_a + sigma_s < elementary::infinity())
 }
 
 pub fn check_coefficients(c: Coefficients) -> u32
     ensures { λ y. ⌜ y ≡ Checks.check8 c ⌝ }
 {
-    let a = coefficients_ok(c.sigma_a);
-    let s = coefficients_ok(c.sigma_s);
-    let t = are_finite(c.sigma_t());
-    if a & s & t { 0 } else { 8 }
+    let a = c.sigma_a;
+    let s = c.sigma_s;
+    let r = channel_ok(a.r, s.r);
+    let g = channel_ok(a.g, s.g);
+    let b = channel_ok(a.b, s.b);
+    if r & g & b { 0 } else { 8 }
 }
 
 // What `sr` and `pdf_sr` make before 11: 1 to 6 and 8.

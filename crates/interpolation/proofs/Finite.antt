@@ -10,7 +10,7 @@ use native.Mathlib.Numerals.{add-one}
 use native.Mathlib.Omega.{arith}
 use lib.ListN.{getD, length}
 use lib.Ieee.{Float, nan, inf, fin, lt, add, sub, neg}
-use Rattle.elementary.specs.Notation.{_⊖_}
+use Rattle.elementary.specs.Notation.{_⊕_, _⊖_}
 use Rattle.interpolation.specs.Nodes.{finite, allBelow, allFinite, increasing, nodesOk}
 
 pub finite-is : (x : Float) → (lt (neg (inf false)) x && lt x (inf false)) ≡ finite x
@@ -47,7 +47,7 @@ each p (suc n) k h l = elim (eq-or-lt-of-le (within l)) [ inl e ↦ rw e (and-ri
     within : k < suc n → k ≤ n
     within l = omega arith
 
--- ---- what the order and a finite difference say of a value
+-- ---- what the order and a finite sum or difference say of a value
 
 nan-right : (x : Float) → lt x nan ≡ false
 unfolding lt
@@ -75,18 +75,28 @@ between x (inf true) z h k = absurd (false≢true (sym (least x) ∙ h))
 between x (inf false) z h k = absurd (false≢true (sym (most z) ∙ k))
 between x (fin s m e) z h k = refl
 
+pub sum-ends : (x y : Float) → finite (x ⊕ y) ≡ true → (finite x ≡ true) × (finite y ≡ true)
+unfolding finite add
+sum-ends nan y h = absurd (false≢true h)
+sum-ends (inf s) nan h = absurd (false≢true h)
+sum-ends (inf true) (inf true) h = absurd (false≢true h)
+sum-ends (inf true) (inf false) h = absurd (false≢true h)
+sum-ends (inf false) (inf true) h = absurd (false≢true h)
+sum-ends (inf false) (inf false) h = absurd (false≢true h)
+sum-ends (inf s) (fin t n d) h = absurd (false≢true h)
+sum-ends (fin s m e) nan h = absurd (false≢true h)
+sum-ends (fin s m e) (inf t) h = absurd (false≢true h)
+sum-ends (fin s m e) (fin t n d) h = (refl, refl)
+
+finite-neg : (x : Float) → finite (neg x) ≡ finite x
+unfolding finite neg
+finite-neg nan = refl
+finite-neg (inf s) = refl
+finite-neg (fin s m e) = refl
+
 ends : (x y : Float) → finite (x ⊖ y) ≡ true → (finite x ≡ true) × (finite y ≡ true)
-unfolding finite sub add neg
-ends nan y h = absurd (false≢true h)
-ends (inf s) nan h = absurd (false≢true h)
-ends (inf true) (inf true) h = absurd (false≢true h)
-ends (inf true) (inf false) h = absurd (false≢true h)
-ends (inf false) (inf true) h = absurd (false≢true h)
-ends (inf false) (inf false) h = absurd (false≢true h)
-ends (inf s) (fin t n d) h = absurd (false≢true h)
-ends (fin s m e) nan h = absurd (false≢true h)
-ends (fin s m e) (inf t) h = absurd (false≢true h)
-ends (fin s m e) (fin t n d) h = (refl, refl)
+unfolding sub
+ends x y h = let both = sum-ends x (neg y) h in (both .0, sym (finite-neg y) ∙ both .1)
 
 -- ---- the three tests
 

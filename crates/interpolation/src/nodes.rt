@@ -5,7 +5,7 @@ ghost use lib.ListN.{length};
 ghost use Rattle.interpolation.specs.Nodes.{finite, increasing, nodesOk};
 
 // Whether x is neither a NaN nor an infinity.
-pub fn is_finite(x: f32) -> bool
+fn is_finite(x: f32) -> bool
     ensures { λ r. ⌜ r ≡ finite x ⌝ }
 {
     let top = elementary::infinity();
