@@ -8,11 +8,6 @@ show() {
         echo "$file: $(sed -n "${line}p" "$out/$file" | cut -c1-2000)"
     done
 }
-# Not every NAME has both programs.
-case "$1" in
-bench) [ -f "oracle/$name/bench.rs" ] || usage ;;
-*) [ -f "oracle/$name/oracle.rs" ] || usage ;;
-esac
 case "$1 $#" in
 "vectors 1")
     build oracle
