@@ -1,6 +1,6 @@
 -- Check 8 by what the code tests. The sum of two values from 0 on is not below 0, so it is finite where it is below infinity (`sum-below`), and then both are finite (`sum-ends` of interpolation).
 -- The tests stand channel by channel in the code and coefficient by coefficient in the definition (`tests-are`). Assumes nothing.
-use mathlib.Core.Path.{_≡_, refl, sym, ap, _∙_}
+use mathlib.Core.Path.{_≡_, refl, ap, _∙_}
 use mathlib.Core.Bool.{Bool, true, false, cond, _&&_, false≢true}
 use Prim.Native.Nat.{ℕ, zero, suc, _+_, _-_, _*_, _^_, _<_}
 use native.Mathlib.Omega.{arith}
@@ -25,7 +25,7 @@ use Rattle.bssrdf.specs.declared.coefficients.Coefficients.{Coefficients
 
 -- ---- a sum of two values from 0 on
 
--- below infinity means finite: of any value but minus infinity
+-- z is below infinity exactly if it is finite: so is every value but minus infinity
 abbrev Below : Float → Type 0
 Below z = lt z (inf false) ≡ finite z
 
@@ -48,7 +48,7 @@ units-below q k = go (ltb (q * 2 ^ k) (2 ^ (low binary32 + suc (emax binary32)))
 round-below : (num den : ℕ) → Below (round binary32 false num den)
 round-below num den = rw (round-is binary32 false num den) (units-below _ _)
 
--- p units, rounded: they have no sign, or they are none
+-- p units, rounded: with the sign of a value below 0 they can only be none
 rounded-below : (z : Float) (p : ℕ) → Rounded z p 0 1 → Below z
 rounded-below z p r = go (r .sign) refl (r .other)
   where

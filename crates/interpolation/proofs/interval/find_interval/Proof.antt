@@ -1,5 +1,5 @@
 -- `interpolation::interval::find_interval` meets its contract. The invariant: `count` is the number of nodes so far that are at most x. Once a node was read, the list is known to hold values of binary32.
--- On an accepted list the count is the definition's answer and one more (`node-counted`). The measure is the number of nodes left. Assumes nothing.
+-- On an accepted list the definition's answer is the count less 1 (`node-counted`). The measure is the number of nodes left. Assumes nothing.
 use mathlib.Core.Path.{_≡_, refl, sym}
 use Prim.Native.Nat.{_-_, _≤_, _<_}
 use native.Mathlib.Omega.{arith}
