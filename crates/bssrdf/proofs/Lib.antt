@@ -6,6 +6,7 @@ pub mod FiniteSums
 pub mod Products
 pub mod Cells
 pub mod AcceptedQueries
+pub mod TwoParts
 pub mod NeededRows
 pub mod Marks
 pub mod Channels

@@ -13,7 +13,8 @@ ghost use Rattle.table.specs.Parameters.{lists};
 ghost use Rattle.bssrdf.specs.Radiance.{overFour};
 ghost use Rattle.bssrdf.specs.Density as Spec;
 use crate::axes::is_inside;
-use crate::checks::query_number;
+use crate::checks::radii_number;
+use crate::checks::rows_number;
 use crate::coefficients::Coefficients;
 use crate::coefficients::OpticalRadius;
 use crate::coefficients::WorldRadius;
@@ -111,7 +112,7 @@ pub fn pdf_sr(
 ) -> Density
     ensures { λ y. ⌜ Spec.pdfTold y ≡ Spec.pdfSr r (lists (now («rho_samples» .entry)) (now («radius_samples» .entry)) (now (profile .entry)) (now («rho_eff» .entry)) (now («profile_cdf» .entry)) (now (marks .entry))) ch c x ⌝ }
 {
-    let number = query_number(
+    let rows = rows_number(
         r,
         rho_samples,
         radius_samples,
@@ -119,20 +120,23 @@ pub fn pdf_sr(
         rho_eff,
         profile_cdf,
         marks,
-        c,
     );
-    if number > 0 {
-        return Density::Refused(number);
+    if rows > 0 {
+        return Density::Refused(rows);
     }
     let total = c.sigma_t();
     let sigma_t = total.channel(ch);
     let rho = c.channel_rho(ch);
     let optical = x.optical(sigma_t);
+    let i = find_interval(rho_samples, rho);
+    let f = four_at(rho_samples, rho, i);
+    let number = radii_number(radius_samples, c);
+    if number > 0 {
+        return Density::Refused(number);
+    }
     if !is_inside(rho_samples, radius_samples, rho, optical.0) {
         return Density::Value(0.0);
     }
-    let i = find_interval(rho_samples, rho);
-    let f = four_at(rho_samples, rho, i);
     if !are_marked(marks, i, f) {
         return Density::Refused(11);
     }

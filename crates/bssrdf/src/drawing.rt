@@ -3,6 +3,7 @@ ghost use mathlib.Core.Path.{_≡_};
 ghost use Rattle.table.specs.Parameters.{lists};
 ghost use Rattle.bssrdf.specs.Drawing as Spec;
 use crate::checks::draw_number;
+use crate::checks::rows_number;
 use crate::coefficients::Coefficients;
 use crate::needed::are_marked;
 use interpolation::interval::find_interval;
@@ -48,7 +49,7 @@ pub fn sample_sr(
 ) -> Drawn
     ensures { λ y. ⌜ Spec.drawnTold y ≡ Spec.sampleSr r (lists (now («rho_samples» .entry)) (now («radius_samples» .entry)) (now (profile .entry)) (now («rho_eff» .entry)) (now («profile_cdf» .entry)) (now (marks .entry))) ch c u allowance ⌝ }
 {
-    let number = draw_number(
+    let rows = rows_number(
         r,
         rho_samples,
         radius_samples,
@@ -56,24 +57,25 @@ pub fn sample_sr(
         rho_eff,
         profile_cdf,
         marks,
-        c,
-        u,
-        allowance,
     );
-    if number > 0 {
-        return Drawn::Refused(number);
+    if rows > 0 {
+        return Drawn::Refused(rows);
     }
     let total = c.sigma_t();
     let sigma_t = total.channel(ch);
+    let rho = c.channel_rho(ch);
+    let i = find_interval(rho_samples, rho);
+    let f = four_at(rho_samples, rho, i);
+    let number = draw_number(radius_samples, c, u, allowance);
+    if number > 0 {
+        return Drawn::Refused(number);
+    }
     if sigma_t == 0.0 {
         return Drawn::Radius(-1.0, 0);
     }
-    let rho = c.channel_rho(ch);
     if !is_within(rho_samples, rho) {
         return divide(Sample::Outside, sigma_t);
     }
-    let i = find_interval(rho_samples, rho);
-    let f = four_at(rho_samples, rho, i);
     if !are_marked(marks, i, f) {
         return Drawn::Refused(11);
     }
