@@ -29,7 +29,7 @@ fn watch_sources(root: &Path) {
     parts.filter(|part| part.is_dir()).for_each(|part| watch(&part));
 }
 
-/// Has `rt` make the archive.
+/// Has `rt` make the archive, which it proves first: some minutes from nothing, and at once where nothing has changed.
 fn prove(root: &Path) {
     let instead = format!("or set {VARIABLE} to an archive that `rt staticlib gauzespar` made.");
     let run = Command::new("rt").args(["staticlib", "gauzespar"]).current_dir(root).output();
@@ -43,13 +43,9 @@ fn prove(root: &Path) {
 }
 
 fn proved_archive(root: &Path) -> PathBuf {
-    let archive = root.join("target/staticlib/libgauzespar.a");
-    if !archive.exists() {
-        println!("cargo:warning=The library is proved before it is linked; the first time this takes about five minutes.");
-    }
     prove(root);
     watch_sources(root);
-    archive
+    root.join("target/staticlib/libgauzespar.a")
 }
 
 /// The archive to link. A relative path counts from the repository's root.
