@@ -10,8 +10,8 @@
  *     struct gauzespar_coefficients tint = {{0.032f, 0.17f, 0.48f}, {0.74f, 0.88f, 1.01f}};
  *     float rgb[3];
  *     uint32_t refused = gauzespar_table_start(&t);
- *     for (size_t row = 0; refused == 0 && row < t.n; row++)
- *         refused = gauzespar_table_build(&t, row);
+ *     if (refused == 0)
+ *         refused = gauzespar_table_ensure_rows(&t, &tint);
  *     if (refused == 0)
  *         refused = gauzespar_table_sr(&t, &tint, 1.0f, rgb);
  *     if (refused != 0)
@@ -32,6 +32,7 @@
 #ifndef GAUZESPAR_H
 #define GAUZESPAR_H
 
+#include <math.h>
 #include <stddef.h>
 #include <stdint.h>
 
@@ -252,6 +253,33 @@ static inline uint32_t gauzespar_table_sample_sr(const struct gauzespar_table *t
                                t->rho_eff, t->n, t->profile_cdf, t->n * t->m, t->marks, t->n, channel, c->sigma_a[0],
                                c->sigma_a[1], c->sigma_a[2], c->sigma_s[0], c->sigma_s[1], c->sigma_s[2], u, allowance, drawn, 1,
                                rounds, 1);
+}
+
+/* Builds the rows of nonzero weight at one albedo that are not built yet. Refusals: 1, 6; those of gauzespar_build. */
+static inline uint32_t gauzespar_table_ensure_albedo(struct gauzespar_table *t, float albedo)
+{
+    uint8_t inside = 0;
+    int32_t offset = 0;
+    float weights[4] = {0, 0, 0, 0};
+    uint32_t refused = gauzespar_weights(t->rho_samples, t->n, albedo, &inside, 1, &offset, 1, weights, 4);
+    for (int32_t k = 0; refused == 0 && inside == 1 && k < 4; k++)
+        if (weights[k] != 0 && t->marks[offset + k] != 1)
+            refused = gauzespar_table_build(t, (size_t)(offset + k));
+    return refused;
+}
+
+/* Builds just the rows that queries with these coefficients need and that are not built yet: those of nonzero weight at the albedo of
+ * each channel, which is sigma_s / (sigma_a + sigma_s), or 0 where both are 0. Refusals: 1 to 6, 8. */
+static inline uint32_t gauzespar_table_ensure_rows(struct gauzespar_table *t, const struct gauzespar_coefficients *c)
+{
+    float density;
+    /* At a radius that is NaN a query needs no row: it makes the checks alone. */
+    uint32_t refused = gauzespar_table_pdf_sr(t, GAUZESPAR_RED, c, NAN, &density);
+    for (int k = 0; refused == 0 && k < 3; k++) {
+        float sigma_t = c->sigma_a[k] + c->sigma_s[k];
+        refused = gauzespar_table_ensure_albedo(t, sigma_t == 0 ? 0 : c->sigma_s[k] / sigma_t);
+    }
+    return refused;
 }
 
 #ifdef __cplusplus

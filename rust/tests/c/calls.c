@@ -222,6 +222,29 @@ static void a_large_table(void)
     REQUIRE(gauzespar_table_sample_sr(&t, 3, &tint, 0.5f, 2, &drawn, &rounds) == GAUZESPAR_CHANNEL);
 }
 
+/* The same tint, with just the rows that it needs. */
+static void just_the_needed_rows(void)
+{
+    struct gauzespar_table t = table_of(100, 64);
+    struct gauzespar_coefficients tint = {{0.032f, 0.17f, 0.48f}, {0.74f, 0.88f, 1.01f}}, clear = {{0, 0, 0}, {0, 0, 0}};
+    struct gauzespar_coefficients bad = {{0.032f, 0.17f, -0.48f}, {0.74f, 0.88f, 1.01f}};
+    float rgb[3];
+    REQUIRE(gauzespar_table_start(&t) == GAUZESPAR_DONE);
+    REQUIRE(gauzespar_table_ensure_rows(&t, &bad) == GAUZESPAR_COEFFICIENTS);
+    for (size_t row = 0; row < 100; row++)
+        REQUIRE(marks[row] == 0);
+    REQUIRE(gauzespar_table_ensure_rows(&t, &tint) == GAUZESPAR_DONE);
+    for (size_t row = 0; row < 100; row++)
+        REQUIRE(marks[row] == ((row >= 13 && row <= 16) || (row >= 21 && row <= 24) || (row >= 38 && row <= 41)));
+    REQUIRE(gauzespar_table_sr(&t, &tint, 1.0f, rgb) == GAUZESPAR_DONE);
+    REQUIRE(same(rgb[0], 0.015957786f) && same(rgb[1], 0.010558161f) && same(rgb[2], 0.004966334f));
+    effective[13] = 7;
+    REQUIRE(gauzespar_table_ensure_rows(&t, &tint) == GAUZESPAR_DONE && same(effective[13], 7));
+    REQUIRE(gauzespar_table_ensure_rows(&t, &clear) == GAUZESPAR_DONE && marks[0] == 1 && marks[1] == 0);
+    t.m = 65;
+    REQUIRE(gauzespar_table_ensure_rows(&t, &tint) == GAUZESPAR_RADII);
+}
+
 /* Three rows, of which only row 2 is built: albedo 1 needs that alone, albedo 0.5 needs all. */
 static void a_small_table(void)
 {
@@ -338,6 +361,7 @@ int main(void)
         lengths_of(&CALLS[k]);
     }
     a_large_table();
+    just_the_needed_rows();
     a_small_table();
     the_fresnel_term();
     weights();
