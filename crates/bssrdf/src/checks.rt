@@ -19,7 +19,6 @@ use interpolation::checks::check_u;
 use table::Lengths;
 use table::Record;
 use table::checks::start_number;
-use table::checks::table_number;
 
 // Whether a channel's coefficients are numbers from 0 on and their sum is finite. Where both are from
 // 0 on, so that neither is a NaN, a sum below infinity says that they are finite too.
@@ -40,36 +39,8 @@ pub fn check_coefficients(c: Coefficients) -> u32
     if r & g & b { 0 } else { 8 }
 }
 
-// What `sr` and `pdf_sr` make before 11: 1 to 6 and 8.
-pub fn query_number(
-    r: Record,
-    rho_samples: &[f32],
-    radius_samples: &[f32],
-    profile: &[f32],
-    rho_eff: &[f32],
-    profile_cdf: &[f32],
-    marks: &[u8],
-    c: Coefficients,
-) -> u32
-    ensures { λ y. ⌜ y ≡ Checks.queryNumber r (lists (now («rho_samples» .entry)) (now («radius_samples» .entry)) (now (profile .entry)) (now («rho_eff» .entry)) (now («profile_cdf» .entry)) (now (marks .entry))) c ⌝ }
-{
-    let lengths = Lengths {
-        rho_samples: rho_samples.len(),
-        radius_samples: radius_samples.len(),
-        profile: profile.len(),
-        rho_eff: rho_eff.len(),
-        profile_cdf: profile_cdf.len(),
-        marks: marks.len(),
-    };
-    let table = table_number(r, rho_samples, radius_samples, lengths);
-    if table > 0 {
-        return table;
-    }
-    check_coefficients(c)
-}
-
-// The same checks in two parts, for a query that works out its albedo weights between them: they are
-// then at hand when the rest has passed. First 1 to 5, and 6 of the albedo nodes.
+// The checks that a query makes before 11 come in two parts, between which it may work out its albedo
+// weights: they are then at hand when the rest has passed. First 1 to 5, and 6 of the albedo nodes.
 pub fn rows_number(
     r: Record,
     rho_samples: &[f32],
@@ -108,7 +79,35 @@ pub fn radii_number(radius_samples: &[f32], c: Coefficients) -> u32
     check_coefficients(c)
 }
 
-// And for `sample_sr` 9 and 10 after these.
+// Both parts, for `sr`.
+pub fn query_number(
+    r: Record,
+    rho_samples: &[f32],
+    radius_samples: &[f32],
+    profile: &[f32],
+    rho_eff: &[f32],
+    profile_cdf: &[f32],
+    marks: &[u8],
+    c: Coefficients,
+) -> u32
+    ensures { λ y. ⌜ y ≡ Checks.queryNumber r (lists (now («rho_samples» .entry)) (now («radius_samples» .entry)) (now (profile .entry)) (now («rho_eff» .entry)) (now («profile_cdf» .entry)) (now (marks .entry))) c ⌝ }
+{
+    let rows = rows_number(
+        r,
+        rho_samples,
+        radius_samples,
+        profile,
+        rho_eff,
+        profile_cdf,
+        marks,
+    );
+    if rows > 0 {
+        return rows;
+    }
+    radii_number(radius_samples, c)
+}
+
+// The second part for `sample_sr`, with 9 and 10.
 pub fn draw_number(radius_samples: &[f32], c: Coefficients, u: f32, allowance: u32) -> u32
     requires { ⌜ 2 ≤ length (now «radius_samples») ⌝ }
     ensures { λ y. ⌜ y ≡ firstOf (firstOf (check6 (now («radius_samples» .entry)) ∷ Checks.check8 c ∷ []) ∷ check9 u ∷ check10 allowance ∷ []) ⌝ }
