@@ -31,7 +31,7 @@ fn asked_for(record: Record, tint: Coefficients) -> Vec<usize> {
     (0..record.n).filter(missed).collect()
 }
 
-/// The six coefficients of a random channel, some clear, some of albedo 0 or 1.
+/// Absorption and scattering of a random channel, some clear, some of albedo 0 or 1.
 fn channel(rng: &mut Rng) -> (f32, f32) {
     match rng.below(8) {
         0 => (0.0, 0.0),

@@ -104,8 +104,7 @@ fn the_documented_strengths_are_the_built_in_ones() {
     assert!(materials.len() > 5);
 }
 
-/// The built-in strengths are plausible for what they are named: the ready-made flesh tones scatter about 1/mm at common
-/// amounts and take blue more than red.
+/// The warm pigments take green and blue more than red, and the blue one takes red more than blue.
 #[test]
 fn flesh_tones_are_warm() {
     let materials = defined(&built_in());
@@ -117,7 +116,7 @@ fn flesh_tones_are_warm() {
     assert!(red > blue);
 }
 
-/// The same silicone in another unit: lengths in it have the same radiance for each area in square millimetres.
+/// The same silicone in another unit: its coefficients are in 1 over that unit.
 #[test]
 fn units() {
     let recipe = "base clear-silicone\npigment fair-flesh 0.2\n";
