@@ -2,11 +2,11 @@
 use Rattle.std.specs.Prelude.{ℕ, zero, suc, Bool, cond, List, [], ◌∷◌}
 
 -- a check gives its number, unless the test passes, and then 0
-abbrev pub unlessPassed : ℕ → Bool → ℕ
-unlessPassed number passed = cond passed 0 number
+abbrev pub unless_passed : ℕ → Bool → ℕ
+unless_passed number passed = cond passed 0 number
 
 -- checks run down the table: the first that refuses gives the number
-unfoldable pub firstOf : List ℕ → ℕ
-firstOf [] = 0
-firstOf (zero ∷ ks) = firstOf ks
-firstOf (suc k ∷ ks) = suc k
+unfoldable pub first_of : List ℕ → ℕ
+first_of [] = 0
+first_of (zero ∷ ks) = first_of ks
+first_of (suc k ∷ ks) = suc k

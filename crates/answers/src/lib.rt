@@ -2,7 +2,7 @@
 // `specs/` has the definitions and `proofs/` the laws. The one piece of code is the chain of checks.
 #![tactic(auto)]
 
-// The number of the first check that refuses, or 0, as `firstOf` has it. A check is made only where
+// The number of the first check that refuses, or 0, as `first_of` has it. A check is made only where
 // none before it refuses, and may rest on that.
 #[macro_export]
 macro_rules! first_of {

@@ -5,13 +5,13 @@ use mathlib.Core.List.{[], ◌∷◌}
 use Prim.Native.Nat.{ℕ, ◌<◌}
 use lib.Ieee.{Float, eq, neg}
 use Rattle.elementary.specs.Notation.{lit}
-use Rattle.interpolation.specs.Interval.{nodeInterval}
-use Rattle.interpolation.specs.Weights.{fourAt, offsetOf, within, catmullRomWeights}
-use Rattle.interpolation.specs.Sample.{drawFrom, sampleCatmullRom2d}
+use Rattle.interpolation.specs.Interval.{node_interval}
+use Rattle.interpolation.specs.Weights.{four_at, offset_of, within, catmull_rom_weights}
+use Rattle.interpolation.specs.Sample.{draw_from, sample_catmull_rom_2d}
 use Rattle.interpolation.specs.declared.weights.Four.{Four}
 use Rattle.interpolation.specs.declared.weights.Weights.{Weights}
 use Rattle.interpolation.specs.declared.weights.Weights.TheVariants.{At, Outside}
-use Rattle.interpolation.proofs.Finite.{and-left, and-right}
+use Rattle.interpolation.proofs.Finite.{and_left, and_right}
 use Rattle.interpolation.specs.declared.sample.Sample.TheVariants as Sample
 use Rattle.answers.specs.Answer.{Answer, refusal, value}
 use Rattle.scattering.specs.Literals.{one}
@@ -19,17 +19,17 @@ use Rattle.scattering.specs.Spectrum.{channel}
 use Rattle.scattering.specs.declared.spectrum.RGBEnum.{RGBEnum}
 use Rattle.table.specs.Parameters.{Lists}
 use Rattle.table.specs.declared.parameters.Record.{Record}
-use Rattle.bssrdf.specs.Coefficients.{sigmaT, rho}
-use Rattle.bssrdf.specs.Axes.{opticalRadius, albedoWeights, radiusWeights}
-use Rattle.bssrdf.specs.Needed.{weightedRows, rowsOf, rowsOfBoth, pdfRows, sampleRows, allMarked}
-use Rattle.bssrdf.specs.Checks.{drawNumber}
-use Rattle.bssrdf.specs.Density.{densityOf, densityAt, pdfQuestion, pdfSr}
-use Rattle.bssrdf.specs.Drawing.{drawnValue, divided, drawnAt, sampleQuestion, sampleSr}
+use Rattle.bssrdf.specs.Coefficients.{sigma_t, rho}
+use Rattle.bssrdf.specs.Axes.{optical_radius, albedo_weights, radius_weights}
+use Rattle.bssrdf.specs.Needed.{weighted_rows, rows_of, rows_of_both, pdf_rows, sample_rows, all_marked}
+use Rattle.bssrdf.specs.Checks.{draw_number}
+use Rattle.bssrdf.specs.Density.{density_of, density_at, pdf_question, pdf_sr}
+use Rattle.bssrdf.specs.Drawing.{drawn_value, divided, drawn_at, sample_question, sample_sr}
 use Rattle.bssrdf.specs.declared.coefficients.Coefficients.{Coefficients}
 use Rattle.bssrdf.specs.declared.coefficients.WorldRadius.{WorldRadius}
-use Rattle.bssrdf.proofs.Answering.{row-missing, rows-built}
-use Rattle.bssrdf.proofs.TwoParts.{rowsPart, radiiPart, drawPart, query-parts, draw-parts, by-first, by-second, both-pass}
-use Rattle.bssrdf.proofs.Channels.{outside, rows-zero, density-zero}
+use Rattle.bssrdf.proofs.Answering.{row_missing, rows_built_lem}
+use Rattle.bssrdf.proofs.TwoParts.{rows_part, radii_part, draw_part, query_parts, draw_parts, by_first, by_second, both_pass}
+use Rattle.bssrdf.proofs.Channels.{outside, rows_zero, density_zero}
 
 module _ (r : Record) (t : Lists) (ch : RGBEnum) (c : Coefficients) where
   -- its albedo, the interval of that, and the weights there
@@ -37,134 +37,134 @@ module _ (r : Record) (t : Lists) (ch : RGBEnum) (c : Coefficients) where
   a = channel (rho c) ch
 
   abbrev i : ℕ
-  i = nodeInterval t.rhoSamples a
+  i = node_interval t.rho_samples a
 
   abbrev f : Four
-  f = fourAt t.rhoSamples a i
+  f = four_at t.rho_samples a i
 
   -- ---- density
 
   module _ (x : WorldRadius) where
     abbrev b : Float
-    b = (opticalRadius c x ch).0
+    b = (optical_radius c x ch).0
 
     abbrev j : ℕ
-    j = nodeInterval t.radiusSamples b
+    j = node_interval t.radius_samples b
 
     abbrev g : Four
-    g = fourAt t.radiusSamples b j
+    g = four_at t.radius_samples b j
 
     abbrev p : Bool
-    p = within t.rhoSamples a
+    p = within t.rho_samples a
 
     abbrev q : Bool
-    q = within t.radiusSamples b
+    q = within t.radius_samples b
 
-    pub rows-inside : (p && q) ≡ true → pdfRows t ch c x ≡ weightedRows (offsetOf i) f
-    unfolding pdfRows albedoWeights radiusWeights catmullRomWeights rowsOfBoth rowsOf
-    rows-inside e = λ k. rowsOfBoth (cond (and-left p q e k) (At (offsetOf i) f) Outside) (cond (and-right p q e k) (At (offsetOf j) g) Outside)
+    pub rows_inside : (p && q) ≡ true → pdf_rows t ch c x ≡ weighted_rows (offset_of i) f
+    unfolding pdf_rows albedo_weights radius_weights catmull_rom_weights rows_of_both rows_of
+    rows_inside e = λ k. rows_of_both (cond (and_left p q e k) (At (offset_of i) f) Outside) (cond (and_right p q e k) (At (offset_of j) g) Outside)
 
-    pub rows-outside : (p && q) ≡ false → pdfRows t ch c x ≡ []
-    unfolding pdfRows albedoWeights radiusWeights catmullRomWeights
-    rows-outside = outside rowsOfBoth [] rows-zero _ _ p q
+    pub rows_outside : (p && q) ≡ false → pdf_rows t ch c x ≡ []
+    unfolding pdf_rows albedo_weights radius_weights catmull_rom_weights
+    rows_outside = outside rows_of_both [] rows_zero _ _ p q
 
     -- the density by the weights
     abbrev density : Weights → Weights → Float
-    density = densityOf t.profile t.rhoEff r.m (channel (sigmaT c) ch) (opticalRadius c x ch)
+    density = density_of t.profile t.rho_eff r.m (channel (sigma_t c) ch) (optical_radius c x ch)
 
-    pub density-inside : (p && q) ≡ true → densityAt r t ch c x ≡ density (At (offsetOf i) f) (At (offsetOf j) g)
-    unfolding densityAt albedoWeights radiusWeights catmullRomWeights
-    density-inside e = λ k. density (cond (and-left p q e k) (At (offsetOf i) f) Outside) (cond (and-right p q e k) (At (offsetOf j) g) Outside)
+    pub density_inside : (p && q) ≡ true → density_at r t ch c x ≡ density (At (offset_of i) f) (At (offset_of j) g)
+    unfolding density_at albedo_weights radius_weights catmull_rom_weights
+    density_inside e = λ k. density (cond (and_left p q e k) (At (offset_of i) f) Outside) (cond (and_right p q e k) (At (offset_of j) g) Outside)
 
-    pub density-outside : (p && q) ≡ false → densityAt r t ch c x ≡ lit 0
-    unfolding densityAt albedoWeights radiusWeights catmullRomWeights
-    density-outside = outside density (lit 0) (density-zero _ _ _ _ _) _ _ p q
+    pub density_outside : (p && q) ≡ false → density_at r t ch c x ≡ lit 0
+    unfolding density_at albedo_weights radius_weights catmull_rom_weights
+    density_outside = outside density (lit 0) (density_zero _ _ _ _ _) _ _ p q
 
     -- ---- `pdf_sr`, by the two parts of the checks before 11 and, where these pass, by the channel
 
-    pub pdf-first : 0 < rowsPart r t → pdfSr r t ch c x ≡ refusal (rowsPart r t)
-    unfolding pdfSr pdfQuestion
-    pdf-first = by-first _ _ _ _ (query-parts r t c)
+    pub pdf_first : 0 < rows_part r t → pdf_sr r t ch c x ≡ refusal (rows_part r t)
+    unfolding pdf_sr pdf_question
+    pdf_first = by_first _ _ _ _ (query_parts r t c)
 
-    pub pdf-second : rowsPart r t ≡ 0 → 0 < radiiPart t c → pdfSr r t ch c x ≡ refusal (radiiPart t c)
-    unfolding pdfSr pdfQuestion
-    pdf-second = by-second _ _ _ _ (query-parts r t c)
+    pub pdf_second : rows_part r t ≡ 0 → 0 < radii_part t c → pdf_sr r t ch c x ≡ refusal (radii_part t c)
+    unfolding pdf_sr pdf_question
+    pdf_second = by_second _ _ _ _ (query_parts r t c)
 
-    pub pdf-outside : rowsPart r t ≡ 0 → radiiPart t c ≡ 0 → (p && q) ≡ false → pdfSr r t ch c x ≡ value (lit 0 ∷ []) []
-    unfolding pdfSr pdfQuestion allMarked
-    pdf-outside y z e = rows-built _ _ (both-pass (query-parts r t c) y z) (rw (rows-outside e)) ∙ ap (λ (v : Float). value (v ∷ []) []) (density-outside e)
+    pub pdf_outside : rows_part r t ≡ 0 → radii_part t c ≡ 0 → (p && q) ≡ false → pdf_sr r t ch c x ≡ value (lit 0 ∷ []) []
+    unfolding pdf_sr pdf_question all_marked
+    pdf_outside y z e = rows_built_lem _ _ (both_pass (query_parts r t c) y z) (rw (rows_outside e)) ∙ ap (λ (v : Float). value (v ∷ []) []) (density_outside e)
 
-    pub pdf-missing : rowsPart r t ≡ 0 → radiiPart t c ≡ 0 → (p && q) ≡ true → allMarked t.marks (weightedRows (offsetOf i) f) ≡ false → pdfSr r t ch c x ≡ refusal 11
-    unfolding pdfSr pdfQuestion
-    pdf-missing y z e m = row-missing _ _ (both-pass (query-parts r t c) y z) (rw (rows-inside e) m)
+    pub pdf_missing : rows_part r t ≡ 0 → radii_part t c ≡ 0 → (p && q) ≡ true → all_marked t.marks (weighted_rows (offset_of i) f) ≡ false → pdf_sr r t ch c x ≡ refusal 11
+    unfolding pdf_sr pdf_question
+    pdf_missing y z e m = row_missing _ _ (both_pass (query_parts r t c) y z) (rw (rows_inside e) m)
 
-    pub pdf-inside : rowsPart r t ≡ 0 → radiiPart t c ≡ 0 → (p && q) ≡ true → allMarked t.marks (weightedRows (offsetOf i) f) ≡ true
-        → pdfSr r t ch c x ≡ value (density (At (offsetOf i) f) (At (offsetOf j) g) ∷ []) []
-    unfolding pdfSr pdfQuestion
-    pdf-inside y z e m = rows-built _ _ (both-pass (query-parts r t c) y z) (rw (rows-inside e) m) ∙ ap (λ (v : Float). value (v ∷ []) []) (density-inside e)
+    pub pdf_inside : rows_part r t ≡ 0 → radii_part t c ≡ 0 → (p && q) ≡ true → all_marked t.marks (weighted_rows (offset_of i) f) ≡ true
+        → pdf_sr r t ch c x ≡ value (density (At (offset_of i) f) (At (offset_of j) g) ∷ []) []
+    unfolding pdf_sr pdf_question
+    pdf_inside y z e m = rows_built_lem _ _ (both_pass (query_parts r t c) y z) (rw (rows_inside e) m) ∙ ap (λ (v : Float). value (v ∷ []) []) (density_inside e)
 
   -- ---- a draw
 
-  pub clear-rows : eq (channel (sigmaT c) ch) (lit 0) ≡ true → sampleRows t ch c ≡ []
-  unfolding sampleRows
-  clear-rows e = rw e
+  pub clear_rows : eq (channel (sigma_t c) ch) (lit 0) ≡ true → sample_rows t ch c ≡ []
+  unfolding sample_rows
+  clear_rows e = rw e
 
-  pub clear-drawn : (u : Float) (allowance : ℕ) → eq (channel (sigmaT c) ch) (lit 0) ≡ true → drawnAt t ch c u allowance ≡ drawnValue (neg one) 0
-  unfolding drawnAt
-  clear-drawn u allowance e = rw e
+  pub clear_drawn : (u : Float) (allowance : ℕ) → eq (channel (sigma_t c) ch) (lit 0) ≡ true → drawn_at t ch c u allowance ≡ drawn_value (neg one) 0
+  unfolding drawn_at
+  clear_drawn u allowance e = rw e
 
-  pub drawn-rows : eq (channel (sigmaT c) ch) (lit 0) ≡ false → (p : Bool) → within t.rhoSamples a ≡ p → sampleRows t ch c ≡ cond p (weightedRows (offsetOf i) f) []
-  unfolding sampleRows albedoWeights catmullRomWeights rowsOf
-  drawn-rows e p w = rw e (ap (λ (q : Bool). rowsOf (cond q (At (offsetOf i) f) Outside)) w ∙ chosen p)
+  pub drawn_rows : eq (channel (sigma_t c) ch) (lit 0) ≡ false → (p : Bool) → within t.rho_samples a ≡ p → sample_rows t ch c ≡ cond p (weighted_rows (offset_of i) f) []
+  unfolding sample_rows albedo_weights catmull_rom_weights rows_of
+  drawn_rows e p w = rw e (ap (λ (q : Bool). rows_of (cond q (At (offset_of i) f) Outside)) w ∙ chosen p)
     where
-      chosen : (p : Bool) → rowsOf (cond p (At (offsetOf i) f) Outside) ≡ cond p (weightedRows (offsetOf i) f) []
+      chosen : (p : Bool) → rows_of (cond p (At (offset_of i) f) Outside) ≡ cond p (weighted_rows (offset_of i) f) []
       chosen true = refl
       chosen false = refl
 
   -- the draw by the weights
   abbrev drawn : ℕ → Float → Weights → Answer
-  drawn allowance u w = divided (channel (sigmaT c) ch) (drawFrom t.radiusSamples t.profile t.profileCdf w u allowance)
+  drawn allowance u w = divided (channel (sigma_t c) ch) (draw_from t.radius_samples t.profile t.profile_cdf w u allowance)
 
-  pub drawn-inside : (u : Float) (allowance : ℕ) → eq (channel (sigmaT c) ch) (lit 0) ≡ false → within t.rhoSamples a ≡ true → drawnAt t ch c u allowance ≡ drawn allowance u (At (offsetOf i) f)
-  unfolding drawnAt sampleCatmullRom2d catmullRomWeights
-  drawn-inside u allowance e w = rw e (ap (λ (q : Bool). drawn allowance u (cond q (At (offsetOf i) f) Outside)) w)
+  pub drawn_inside : (u : Float) (allowance : ℕ) → eq (channel (sigma_t c) ch) (lit 0) ≡ false → within t.rho_samples a ≡ true → drawn_at t ch c u allowance ≡ drawn allowance u (At (offset_of i) f)
+  unfolding drawn_at sample_catmull_rom_2d catmull_rom_weights
+  drawn_inside u allowance e w = rw e (ap (λ (q : Bool). drawn allowance u (cond q (At (offset_of i) f) Outside)) w)
 
-  pub drawn-outside : (u : Float) (allowance : ℕ) → eq (channel (sigmaT c) ch) (lit 0) ≡ false → within t.rhoSamples a ≡ false → drawnAt t ch c u allowance ≡ divided (channel (sigmaT c) ch) Sample.Outside
-  unfolding drawnAt sampleCatmullRom2d catmullRomWeights drawFrom
-  drawn-outside u allowance e w = rw e (ap (λ (q : Bool). drawn allowance u (cond q (At (offsetOf i) f) Outside)) w)
+  pub drawn_outside : (u : Float) (allowance : ℕ) → eq (channel (sigma_t c) ch) (lit 0) ≡ false → within t.rho_samples a ≡ false → drawn_at t ch c u allowance ≡ divided (channel (sigma_t c) ch) Sample.Outside
+  unfolding drawn_at sample_catmull_rom_2d catmull_rom_weights draw_from
+  drawn_outside u allowance e w = rw e (ap (λ (q : Bool). drawn allowance u (cond q (At (offset_of i) f) Outside)) w)
 
   -- ---- `sample_sr`, in the same way
 
   module _ (u : Float) (allowance : ℕ) where
-    pub sample-first : 0 < rowsPart r t → sampleSr r t ch c u allowance ≡ refusal (rowsPart r t)
-    unfolding sampleSr sampleQuestion
-    sample-first = by-first _ _ _ _ (draw-parts r t c u allowance)
+    pub sample_first : 0 < rows_part r t → sample_sr r t ch c u allowance ≡ refusal (rows_part r t)
+    unfolding sample_sr sample_question
+    sample_first = by_first _ _ _ _ (draw_parts r t c u allowance)
 
-    pub sample-second : rowsPart r t ≡ 0 → 0 < drawPart t c u allowance → sampleSr r t ch c u allowance ≡ refusal (drawPart t c u allowance)
-    unfolding sampleSr sampleQuestion
-    sample-second = by-second _ _ _ _ (draw-parts r t c u allowance)
+    pub sample_second : rows_part r t ≡ 0 → 0 < draw_part t c u allowance → sample_sr r t ch c u allowance ≡ refusal (draw_part t c u allowance)
+    unfolding sample_sr sample_question
+    sample_second = by_second _ _ _ _ (draw_parts r t c u allowance)
 
-    module _ (y : rowsPart r t ≡ 0) (z : drawPart t c u allowance ≡ 0) where
-      passes : drawNumber r t c u allowance ≡ 0
-      passes = both-pass (draw-parts r t c u allowance) y z
+    module _ (y : rows_part r t ≡ 0) (z : draw_part t c u allowance ≡ 0) where
+      passes : draw_number r t c u allowance ≡ 0
+      passes = both_pass (draw_parts r t c u allowance) y z
 
-      pub sample-clear : eq (channel (sigmaT c) ch) (lit 0) ≡ true → sampleSr r t ch c u allowance ≡ drawnValue (neg one) 0
-      unfolding sampleSr sampleQuestion allMarked
-      sample-clear e = rows-built _ _ passes (rw (clear-rows e)) ∙ clear-drawn u allowance e
+      pub sample_clear : eq (channel (sigma_t c) ch) (lit 0) ≡ true → sample_sr r t ch c u allowance ≡ drawn_value (neg one) 0
+      unfolding sample_sr sample_question all_marked
+      sample_clear e = rows_built_lem _ _ passes (rw (clear_rows e)) ∙ clear_drawn u allowance e
 
-      module _ (e : eq (channel (sigmaT c) ch) (lit 0) ≡ false) where
-        pub sample-outside : within t.rhoSamples a ≡ false → sampleSr r t ch c u allowance ≡ divided (channel (sigmaT c) ch) Sample.Outside
-        unfolding sampleSr sampleQuestion allMarked
-        sample-outside w = rows-built _ _ passes (rw (drawn-rows e false w)) ∙ drawn-outside u allowance e w
+      module _ (e : eq (channel (sigma_t c) ch) (lit 0) ≡ false) where
+        pub sample_outside : within t.rho_samples a ≡ false → sample_sr r t ch c u allowance ≡ divided (channel (sigma_t c) ch) Sample.Outside
+        unfolding sample_sr sample_question all_marked
+        sample_outside w = rows_built_lem _ _ passes (rw (drawn_rows e false w)) ∙ drawn_outside u allowance e w
 
-        pub sample-missing : within t.rhoSamples a ≡ true → allMarked t.marks (weightedRows (offsetOf i) f) ≡ false → sampleSr r t ch c u allowance ≡ refusal 11
-        unfolding sampleSr sampleQuestion
-        sample-missing w m = row-missing _ _ passes (rw (drawn-rows e true w) m)
+        pub sample_missing : within t.rho_samples a ≡ true → all_marked t.marks (weighted_rows (offset_of i) f) ≡ false → sample_sr r t ch c u allowance ≡ refusal 11
+        unfolding sample_sr sample_question
+        sample_missing w m = row_missing _ _ passes (rw (drawn_rows e true w) m)
 
-        pub sample-inside : within t.rhoSamples a ≡ true → allMarked t.marks (weightedRows (offsetOf i) f) ≡ true → sampleSr r t ch c u allowance ≡ drawn allowance u (At (offsetOf i) f)
-        unfolding sampleSr sampleQuestion
-        sample-inside w m = rows-built _ _ passes (rw (drawn-rows e true w) m) ∙ drawn-inside u allowance e w
+        pub sample_inside : within t.rho_samples a ≡ true → all_marked t.marks (weighted_rows (offset_of i) f) ≡ true → sample_sr r t ch c u allowance ≡ drawn allowance u (At (offset_of i) f)
+        unfolding sample_sr sample_question
+        sample_inside w m = rows_built_lem _ _ passes (rw (drawn_rows e true w) m) ∙ drawn_inside u allowance e w
 
-pub ruleset pdf_by_tests = (pdf-first, pdf-second, pdf-outside, pdf-missing, pdf-inside)
+pub ruleset pdf_by_tests = (pdf_first, pdf_second, pdf_outside, pdf_missing, pdf_inside)
 
-pub ruleset sample_by_tests = (sample-first, sample-second, sample-clear, sample-outside, sample-missing, sample-inside)
+pub ruleset sample_by_tests = (sample_first, sample_second, sample_clear, sample_outside, sample_missing, sample_inside)

@@ -1,5 +1,5 @@
 -- What a query needs and answers is the same on two tables that are alike in the rows that it needs. The checks before 11 read nodes and lengths alone. Where they pass, an entry that is read belongs to a place of nonzero albedo weight,
--- so to a needed row, and to one of nonzero radius weight, so to a column that exists. `pdf_sr` tests each weight; `sr` tests their product, which is enough since all weights are finite (`factors-nonzero`). Assumes nothing.
+-- so to a needed row, and to one of nonzero radius weight, so to a column that exists. `pdf_sr` tests each weight; `sr` tests their product, which is enough since all weights are finite (`factors_nonzero`). Assumes nothing.
 use mathlib.Core.Path.{◌≡◌, refl, sym, ap, ◌∙◌}
 use mathlib.Core.Bool.{Bool, true, false, cond}
 use mathlib.Core.List.{List, [], ◌∷◌, ◌++◌}
@@ -11,41 +11,41 @@ use lib.Seq.{get_or-take, get_or-drop}
 use lib.Ieee.{Float, nan, neg, eq}
 use Rattle.elementary.specs.Notation.{◌⊕◌, ◌⊗◌, lit}
 use Rattle.answers.specs.Answer.{Answer}
-use Rattle.answers.specs.Checks.{firstOf}
+use Rattle.answers.specs.Checks.{first_of}
 use Rattle.interpolation.specs.Nodes.{finite}
-use Rattle.interpolation.specs.Weights.{weightAt, catmullRomWeights}
-use Rattle.interpolation.specs.Blend.{rowOf}
-use Rattle.interpolation.specs.Sample.{drawFrom, sampleCatmullRom2d}
+use Rattle.interpolation.specs.Weights.{weight_at, catmull_rom_weights}
+use Rattle.interpolation.specs.Blend.{row_of}
+use Rattle.interpolation.specs.Sample.{draw_from, sample_catmull_rom_2d}
 use Rattle.interpolation.specs.Checks.{check9, check10}
 use Rattle.interpolation.specs.Laws.{Agree}
 use Rattle.interpolation.specs.declared.weights.Four.{Four}
 use Rattle.interpolation.specs.declared.weights.Weights.{Weights}
 use Rattle.interpolation.specs.declared.weights.Weights.TheVariants.{At, Outside}
-use Rattle.interpolation.proofs.Rows.{interpolate-same}
-use Rattle.interpolation.proofs.Needed.{draw-same}
+use Rattle.interpolation.proofs.Rows.{interpolate_same}
+use Rattle.interpolation.proofs.Needed.{draw_same}
 use Rattle.scattering.specs.Literals.{one}
 use Rattle.scattering.specs.Spectrum.{rgb, times, channel}
 use Rattle.scattering.specs.declared.spectrum.RGBEnum.{RGBEnum}
 use Rattle.scattering.specs.declared.spectrum.RGBEnum.TheVariants.{Red, Green, Blue}
 use Rattle.table.specs.Parameters.{Lists}
-use Rattle.table.specs.Checks.{tableNumber}
-use Rattle.table.specs.TableRow.{TableRow, rowAt}
+use Rattle.table.specs.Checks.{table_number}
+use Rattle.table.specs.TableRow.{TableRow, row_at}
 use Rattle.table.specs.Sets.{Rows}
 use Rattle.table.specs.declared.parameters.Record.{Record}
-use Rattle.bssrdf.specs.Coefficients.{sigmaT, rho}
-use Rattle.bssrdf.specs.Axes.{opticalRadius, albedoWeights, radiusWeights}
-use Rattle.bssrdf.specs.Needed.{weightedRows, rowsOf, rowsOfBoth, pdfRows, srRows, sampleRows, among}
-use Rattle.bssrdf.specs.Checks.{check8, queryNumber, drawNumber}
-use Rattle.bssrdf.specs.Radiance.{evalProfile, overFour, addProduct, addCell, tensor, cancelled, channelSr, channelAt, unclamped}
-use Rattle.bssrdf.specs.Density.{addTerm, addEntry, addEntries, profileSum, blendedAlbedo, densityOf, densityAt}
-use Rattle.bssrdf.specs.Drawing.{drawnValue, divided, drawnAt}
+use Rattle.bssrdf.specs.Coefficients.{sigma_t, rho}
+use Rattle.bssrdf.specs.Axes.{optical_radius, albedo_weights, radius_weights}
+use Rattle.bssrdf.specs.Needed.{weighted_rows, rows_of, rows_of_both, pdf_rows, sr_rows, sample_rows, among}
+use Rattle.bssrdf.specs.Checks.{check8, query_number, draw_number}
+use Rattle.bssrdf.specs.Radiance.{eval_profile, over_four, add_product, add_cell, tensor, cancelled, channel_sr, channel_at, unclamped}
+use Rattle.bssrdf.specs.Density.{add_term, add_entry, add_entries, profile_sum, blended_albedo, density_of, density_at}
+use Rattle.bssrdf.specs.Drawing.{drawn_value, divided, drawn_at}
 use Rattle.bssrdf.specs.Laws.{Alike, NodesHold}
 use Rattle.bssrdf.specs.declared.coefficients.Coefficients.{Coefficients}
 use Rattle.bssrdf.specs.declared.coefficients.WorldRadius.{WorldRadius}
-use Rattle.bssrdf.proofs.Products.{factors-nonzero}
-use Rattle.bssrdf.proofs.NeededRows.{append-left, append-right, place-among, node-exists}
-use Rattle.bssrdf.proofs.AfterChecks.{albedo-rows}
-use Rattle.bssrdf.proofs.AcceptedQueries.{query-accepted, two-radii, rho-bounded, radius-bounded, finite-at}
+use Rattle.bssrdf.proofs.Products.{factors_nonzero}
+use Rattle.bssrdf.proofs.NeededRows.{append_left, append_right, place_among, node_exists}
+use Rattle.bssrdf.proofs.AfterChecks.{albedo_rows}
+use Rattle.bssrdf.proofs.AcceptedQueries.{query_accepted, two_radii, rho_bounded, radius_bounded, finite_at}
 
 -- ---- sums over places
 
@@ -54,189 +54,189 @@ skipped : (b : Bool) (v y z : Float) → (b ≡ false → y ≡ z) → cond b v 
 skipped true v y z h = refl
 skipped false v y z h = h refl
 
-four-same : (p q : ℕ → Float → Float) → ((k : ℕ) → k < 4 → (v : Float) → p k v ≡ q k v) → (v : Float) → overFour p v ≡ overFour q v
-four-same p q h v = rw (h 0 (omega arith) v, h 1 (omega arith) _, h 2 (omega arith) _, h 3 (omega arith) _)
+four_same : (p q : ℕ → Float → Float) → ((k : ℕ) → k < 4 → (v : Float) → p k v ≡ q k v) → (v : Float) → over_four p v ≡ over_four q v
+four_same p q h v = rw (h 0 (omega arith) v, h 1 (omega arith) _, h 2 (omega arith) _, h 3 (omega arith) _)
 
 -- two profiles that agree on the rows of nonzero albedo weight; the columns of nonzero radius weight exist
-module _ (m : ℕ) (a b : List Float) (o : ℤ) (f : Four) (A : Agree a b m o f) (o' : ℤ) (g : Four) (inside : (j : ℕ) → j < 4 → eq (weightAt g j) (lit 0) ≡ false → rowOf o' j < m) where
-  entry-same : (i j : ℕ) → i < 4 → j < 4 → eq (weightAt f i) (lit 0) ≡ false → eq (weightAt g j) (lit 0) ≡ false → evalProfile a m o o' i j ≡ evalProfile b m o o' i j
-  unfolding evalProfile
-  entry-same i j l k p q = A.at i (rowOf o' j) l (inside j k q) p
+module _ (m : ℕ) (a b : List Float) (o : ℤ) (f : Four) (A : Agree a b m o f) (o' : ℤ) (g : Four) (inside : (j : ℕ) → j < 4 → eq (weight_at g j) (lit 0) ≡ false → row_of o' j < m) where
+  entry_same : (i j : ℕ) → i < 4 → j < 4 → eq (weight_at f i) (lit 0) ≡ false → eq (weight_at g j) (lit 0) ≡ false → eval_profile a m o o' i j ≡ eval_profile b m o o' i j
+  unfolding eval_profile
+  entry_same i j l k p q = A.at i (row_of o' j) l (inside j k q) p
 
-  sum-same : profileSum a m o f o' g ≡ profileSum b m o f o' g
-  unfolding profileSum addEntries addEntry addTerm
-  sum-same =
-      four-same (addEntries a m o f o' g) (addEntries b m o f o' g)
+  sum_same : profile_sum a m o f o' g ≡ profile_sum b m o f o' g
+  unfolding profile_sum add_entries add_entry add_term
+  sum_same =
+      four_same (add_entries a m o f o' g) (add_entries b m o f o' g)
       (λ i l v.
-      skipped (eq (weightAt f i) (lit 0)) v _ _ (λ p.
-      four-same (addEntry a m o f o' g i) (addEntry b m o f o' g i)
-      (λ j k w. skipped (eq (weightAt g j) (lit 0)) w _ _ (λ q. ap (λ (e : Float). w ⊕ e ⊗ weightAt f i ⊗ weightAt g j) (entry-same i j l k p q)))
+      skipped (eq (weight_at f i) (lit 0)) v _ _ (λ p.
+      four_same (add_entry a m o f o' g i) (add_entry b m o f o' g i)
+      (λ j k w. skipped (eq (weight_at g j) (lit 0)) w _ _ (λ q. ap (λ (e : Float). w ⊕ e ⊗ weight_at f i ⊗ weight_at g j) (entry_same i j l k p q)))
       v))
       (lit 0)
 
-  tensor-same : ((i : ℕ) → finite (weightAt f i) ≡ true) → ((j : ℕ) → finite (weightAt g j) ≡ true) → tensor a m o f o' g ≡ tensor b m o f o' g
-  unfolding tensor addCell addProduct
-  tensor-same F G =
-      four-same (λ i. overFour (addCell a m o f o' g i)) (λ i. overFour (addCell b m o f o' g i))
+  tensor_same : ((i : ℕ) → finite (weight_at f i) ≡ true) → ((j : ℕ) → finite (weight_at g j) ≡ true) → tensor a m o f o' g ≡ tensor b m o f o' g
+  unfolding tensor add_cell add_product
+  tensor_same F G =
+      four_same (λ i. over_four (add_cell a m o f o' g i)) (λ i. over_four (add_cell b m o f o' g i))
       (λ i l v.
-      four-same (addCell a m o f o' g i) (addCell b m o f o' g i)
+      four_same (add_cell a m o f o' g i) (add_cell b m o f o' g i)
       (λ j k w.
-      skipped (eq (weightAt f i ⊗ weightAt g j) (lit 0)) w _ _
+      skipped (eq (weight_at f i ⊗ weight_at g j) (lit 0)) w _ _
       (λ h.
-      let n = factors-nonzero (weightAt f i) (weightAt g j) (F i) (G j) h in
-      ap (λ (e : Float). w ⊕ weightAt f i ⊗ weightAt g j ⊗ e) (entry-same i j l k n.0 n.1)))
+      let n = factors_nonzero (weight_at f i) (weight_at g j) (F i) (G j) h in
+      ap (λ (e : Float). w ⊕ weight_at f i ⊗ weight_at g j ⊗ e) (entry_same i j l k n.0 n.1)))
       v)
       (lit 0)
 
 -- ---- what the rows say
 
 -- the same row of two tables with m columns
-row-entry : (m k col : ℕ) (a b : List Float) → take m (drop (k * m) a) ≡ take m (drop (k * m) b) → col < m → get_or a (k * m + col) nan ≡ get_or b (k * m + col) nan
-row-entry m k col a b e l = sym (read a) ∙ ap (λ (row : List Float). get_or row col nan) e ∙ read b
+row_entry : (m k col : ℕ) (a b : List Float) → take m (drop (k * m) a) ≡ take m (drop (k * m) b) → col < m → get_or a (k * m + col) nan ≡ get_or b (k * m + col) nan
+row_entry m k col a b e l = sym (read a) ∙ ap (λ (row : List Float). get_or row col nan) e ∙ read b
   where
     read : (a : List Float) → get_or (take m (drop (k * m) a)) col nan ≡ get_or a (k * m + col) nan
     read a = get_or-take m (drop (k * m) a) col nan l ∙ get_or-drop (k * m) a col nan
 
-rows-agree : (m : ℕ) (a b : List Float) (o : ℤ) (f : Four) → ((k : ℕ) → among (weightedRows o f) k ≡ true → take m (drop (k * m) a) ≡ take m (drop (k * m) b)) → Agree a b m o f
-rows-agree m a b o f h = record { at = λ k col l n w. row-entry m (rowOf o k) col a b (h (rowOf o k) (place-among o f k l w)) n }
+rows_agree : (m : ℕ) (a b : List Float) (o : ℤ) (f : Four) → ((k : ℕ) → among (weighted_rows o f) k ≡ true → take m (drop (k * m) a) ≡ take m (drop (k * m) b)) → Agree a b m o f
+rows_agree m a b o f h = record { at = λ k col l n w. row_entry m (row_of o k) col a b (h (row_of o k) (place_among o f k l w)) n }
 
 -- tables whose rows of nonzero weight are the same
-module _ (r : Record) (s t : Lists) (o : ℤ) (f : Four) (same : (k : ℕ) → among (weightedRows o f) k ≡ true → rowAt r s k ≡ rowAt r t k) where
-  profiles-agree : Agree s.profile t.profile r.m o f
-  unfolding rowAt
-  profiles-agree = rows-agree r.m s.profile t.profile o f (λ k l. ap (λ (x : TableRow). x.profile) (same k l))
+module _ (r : Record) (s t : Lists) (o : ℤ) (f : Four) (same : (k : ℕ) → among (weighted_rows o f) k ≡ true → row_at r s k ≡ row_at r t k) where
+  profiles_agree : Agree s.profile t.profile r.m o f
+  unfolding row_at
+  profiles_agree = rows_agree r.m s.profile t.profile o f (λ k l. ap (λ (x : TableRow). x.profile) (same k l))
 
-  cdfs-agree : Agree s.profileCdf t.profileCdf r.m o f
-  unfolding rowAt
-  cdfs-agree = rows-agree r.m s.profileCdf t.profileCdf o f (λ k l. ap (λ (x : TableRow). x.cdf) (same k l))
+  cdfs_agree : Agree s.profile_cdf t.profile_cdf r.m o f
+  unfolding row_at
+  cdfs_agree = rows_agree r.m s.profile_cdf t.profile_cdf o f (λ k l. ap (λ (x : TableRow). x.cdf) (same k l))
 
   -- the effective albedos are a table with one column
-  albedos-agree : Agree s.rhoEff t.rhoEff 1 o f
-  unfolding rowAt
-  albedos-agree = record { at = λ k col l m w. let e : rowOf o k * 1 + col ≡ rowOf o k = omega arith in rw e (ap (λ (x : TableRow). x.albedo) (same (rowOf o k) (place-among o f k l w))) }
+  albedos_agree : Agree s.rho_eff t.rho_eff 1 o f
+  unfolding row_at
+  albedos_agree = record { at = λ k col l m w. let e : row_of o k * 1 + col ≡ row_of o k = omega arith in rw e (ap (λ (x : TableRow). x.albedo) (same (row_of o k) (place_among o f k l w))) }
 
 -- ---- what is asked of two tables that are alike
 
 module _ (r : Record) (S : Rows) (s t : Lists) (A : Alike r S s t) (c : Coefficients) where
-  pub number-same : queryNumber r s c ≡ queryNumber r t c
-  unfolding queryNumber
-  number-same = λ i. firstOf (tableNumber r (A.rho i) (A.radii i) (A.lengths i) ∷ check8 c ∷ [])
+  pub number_same : query_number r s c ≡ query_number r t c
+  unfolding query_number
+  number_same = λ i. first_of (table_number r (A.rho i) (A.radii i) (A.lengths i) ∷ check8 c ∷ [])
 
-  pub draw-number-same : (u : Float) (allowance : ℕ) → drawNumber r s c u allowance ≡ drawNumber r t c u allowance
-  unfolding drawNumber
-  draw-number-same u allowance = λ i. firstOf (number-same i ∷ check9 u ∷ check10 allowance ∷ [])
+  pub draw_number_same : (u : Float) (allowance : ℕ) → draw_number r s c u allowance ≡ draw_number r t c u allowance
+  unfolding draw_number
+  draw_number_same u allowance = λ i. first_of (number_same i ∷ check9 u ∷ check10 allowance ∷ [])
 
-  albedo-same : (ch : RGBEnum) → albedoWeights s c ch ≡ albedoWeights t c ch
-  unfolding albedoWeights
-  albedo-same ch = ap (λ (nodes : List Float). catmullRomWeights nodes (channel (rho c) ch)) A.rho
+  albedo_same : (ch : RGBEnum) → albedo_weights s c ch ≡ albedo_weights t c ch
+  unfolding albedo_weights
+  albedo_same ch = ap (λ (nodes : List Float). catmull_rom_weights nodes (channel (rho c) ch)) A.rho
 
-  radius-same : (x : WorldRadius) (ch : RGBEnum) → radiusWeights s c x ch ≡ radiusWeights t c x ch
-  unfolding radiusWeights
-  radius-same x ch = ap (λ (nodes : List Float). catmullRomWeights nodes (opticalRadius c x ch).0) A.radii
+  radius_same : (x : WorldRadius) (ch : RGBEnum) → radius_weights s c x ch ≡ radius_weights t c x ch
+  unfolding radius_weights
+  radius_same x ch = ap (λ (nodes : List Float). catmull_rom_weights nodes (optical_radius c x ch).0) A.radii
 
-  pub pdf-rows-same : (ch : RGBEnum) (x : WorldRadius) → pdfRows s ch c x ≡ pdfRows t ch c x
-  unfolding pdfRows
-  pdf-rows-same ch x = λ i. rowsOfBoth (albedo-same ch i) (radius-same x ch i)
+  pub pdf_rows_same : (ch : RGBEnum) (x : WorldRadius) → pdf_rows s ch c x ≡ pdf_rows t ch c x
+  unfolding pdf_rows
+  pdf_rows_same ch x = λ i. rows_of_both (albedo_same ch i) (radius_same x ch i)
 
-  pub sr-rows-same : (x : WorldRadius) → srRows s c x ≡ srRows t c x
-  unfolding srRows
-  sr-rows-same x = λ i. pdf-rows-same Red x i ++ (pdf-rows-same Green x i ++ pdf-rows-same Blue x i)
+  pub sr_rows_same : (x : WorldRadius) → sr_rows s c x ≡ sr_rows t c x
+  unfolding sr_rows
+  sr_rows_same x = λ i. pdf_rows_same Red x i ++ (pdf_rows_same Green x i ++ pdf_rows_same Blue x i)
 
-  pub sample-rows-same : (ch : RGBEnum) → sampleRows s ch c ≡ sampleRows t ch c
-  unfolding sampleRows
-  sample-rows-same ch = λ i. cond (eq (channel (sigmaT c) ch) (lit 0)) [] (rowsOf (albedo-same ch i))
+  pub sample_rows_same : (ch : RGBEnum) → sample_rows s ch c ≡ sample_rows t ch c
+  unfolding sample_rows
+  sample_rows_same ch = λ i. cond (eq (channel (sigma_t c) ch) (lit 0)) [] (rows_of (albedo_same ch i))
 
 -- ---- a channel
 
 -- what is known of a channel that is inside
 record Inside (r : Record) (s t : Lists) (c : Coefficients) (ch : RGBEnum) (x : WorldRadius) (o : ℤ) (f : Four) (o' : ℤ) (g : Four) : Type 0 where
-  albedo-is : albedoWeights s c ch ≡ At o f
-  radius-is : radiusWeights s c x ch ≡ At o' g
-  same : (k : ℕ) → among (weightedRows o f) k ≡ true → rowAt r s k ≡ rowAt r t k
-  columns : (j : ℕ) → j < 4 → eq (weightAt g j) (lit 0) ≡ false → rowOf o' j < r.m
+  albedo_is : albedo_weights s c ch ≡ At o f
+  radius_is : radius_weights s c x ch ≡ At o' g
+  same : (k : ℕ) → among (weighted_rows o f) k ≡ true → row_at r s k ≡ row_at r t k
+  columns : (j : ℕ) → j < 4 → eq (weight_at g j) (lit 0) ≡ false → row_of o' j < r.m
 
 -- a value F of a channel, by the lists and the weights, is the same on alike tables if it is so inside
-module _ (r : Record) (S : Rows) (s t : Lists) (A : Alike r S s t) (c : Coefficients) (h : queryNumber r s c ≡ 0) (ch : RGBEnum) (x : WorldRadius)
-    (sub : (k : ℕ) → among (pdfRows s ch c x) k ≡ true → S k ≡ true) (F : Lists → Weights → Weights → Float)
+module _ (r : Record) (S : Rows) (s t : Lists) (A : Alike r S s t) (c : Coefficients) (h : query_number r s c ≡ 0) (ch : RGBEnum) (x : WorldRadius)
+    (sub : (k : ℕ) → among (pdf_rows s ch c x) k ≡ true → S k ≡ true) (F : Lists → Weights → Weights → Float)
     (inside : (o : ℤ) (f : Four) (o' : ℤ) (g : Four) → Inside r s t c ch x o f o' g → F s (At o f) (At o' g) ≡ F t (At o f) (At o' g))
-    (no-radius : (o : ℤ) (f : Four) → F s (At o f) Outside ≡ F t (At o f) Outside) (no-albedo : (v : Weights) → F s Outside v ≡ F t Outside v) where
-  by-weights : (w v : Weights) → albedoWeights s c ch ≡ w → radiusWeights s c x ch ≡ v → ((k : ℕ) → among (rowsOfBoth w v) k ≡ true → S k ≡ true) → F s w v ≡ F t w v
-  unfolding rowsOfBoth rowsOf radiusWeights
-  by-weights (At o f) (At o' g) p q needed =
+    (no_radius : (o : ℤ) (f : Four) → F s (At o f) Outside ≡ F t (At o f) Outside) (no_albedo : (v : Weights) → F s Outside v ≡ F t Outside v) where
+  by_weights : (w v : Weights) → albedo_weights s c ch ≡ w → radius_weights s c x ch ≡ v → ((k : ℕ) → among (rows_of_both w v) k ≡ true → S k ≡ true) → F s w v ≡ F t w v
+  unfolding rows_of_both rows_of radius_weights
+  by_weights (At o f) (At o' g) p q needed =
       inside o f o' g (record {
-        albedo-is = p;
-        radius-is = q;
-        same = λ k l. A.row k (albedo-rows r s c h k ch (rw p l)) (needed k l);
-        columns = λ j l w. rw (sym (query-accepted r s c h).sizes.fits.radius-fits) (node-exists s.radiusSamples (opticalRadius c x ch).0 o' g q (two-radii r s c h) j l w);
+        albedo_is = p;
+        radius_is = q;
+        same = λ k l. A.row k (albedo_rows r s c h k ch (rw p l)) (needed k l);
+        columns = λ j l w. rw (sym (query_accepted r s c h).sizes.fits.radius_fits) (node_exists s.radius_samples (optical_radius c x ch).0 o' g q (two_radii r s c h) j l w);
       })
-  by-weights (At o f) Outside p q needed = no-radius o f
-  by-weights Outside v p q needed = no-albedo v
+  by_weights (At o f) Outside p q needed = no_radius o f
+  by_weights Outside v p q needed = no_albedo v
 
-  by-channel : F s (albedoWeights s c ch) (radiusWeights s c x ch) ≡ F t (albedoWeights t c ch) (radiusWeights t c x ch)
-  unfolding pdfRows
-  by-channel = by-weights (albedoWeights s c ch) (radiusWeights s c x ch) refl refl sub ∙ (λ i. F t (albedo-same r S s t A c ch i) (radius-same r S s t A c x ch i))
+  by_channel : F s (albedo_weights s c ch) (radius_weights s c x ch) ≡ F t (albedo_weights t c ch) (radius_weights t c x ch)
+  unfolding pdf_rows
+  by_channel = by_weights (albedo_weights s c ch) (radius_weights s c x ch) refl refl sub ∙ (λ i. F t (albedo_same r S s t A c ch i) (radius_same r S s t A c x ch i))
 
-module _ (r : Record) (S : Rows) (s t : Lists) (A : Alike r S s t) (c : Coefficients) (h : queryNumber r s c ≡ 0) (ch : RGBEnum) (x : WorldRadius)
-    (sub : (k : ℕ) → among (pdfRows s ch c x) k ≡ true → S k ≡ true) where
-  pub density-same : densityAt r s ch c x ≡ densityAt r t ch c x
-  unfolding densityAt densityOf blendedAlbedo
-  density-same =
-      by-channel r S s t A c h ch x sub (λ u. densityOf u.profile u.rhoEff r.m (channel (sigmaT c) ch) (opticalRadius c x ch))
+module _ (r : Record) (S : Rows) (s t : Lists) (A : Alike r S s t) (c : Coefficients) (h : query_number r s c ≡ 0) (ch : RGBEnum) (x : WorldRadius)
+    (sub : (k : ℕ) → among (pdf_rows s ch c x) k ≡ true → S k ≡ true) where
+  pub density_same : density_at r s ch c x ≡ density_at r t ch c x
+  unfolding density_at density_of blended_albedo
+  density_same =
+      by_channel r S s t A c h ch x sub (λ u. density_of u.profile u.rho_eff r.m (channel (sigma_t c) ch) (optical_radius c x ch))
       (λ o f o' g i.
       rw (
-        sum-same r.m s.profile t.profile o f (profiles-agree r s t o f i.same) o' g i.columns,
-        interpolate-same s.rhoEff t.rhoEff 1 o f 0 (albedos-agree r s t o f i.same) (omega arith),
+        sum_same r.m s.profile t.profile o f (profiles_agree r s t o f i.same) o' g i.columns,
+        interpolate_same s.rho_eff t.rho_eff 1 o f 0 (albedos_agree r s t o f i.same) (omega arith),
       ))
       (λ o f. refl) (λ v. refl)
 
-  channel-same : NodesHold s → channelAt r s c x ch ≡ channelAt r t c x ch
-  unfolding channelAt channelSr
-  channel-same H =
-      by-channel r S s t A c h ch x sub (λ u. channelSr u.profile r.m (opticalRadius c x ch))
+  channel_same : NodesHold s → channel_at r s c x ch ≡ channel_at r t c x ch
+  unfolding channel_at channel_sr
+  channel_same H =
+      by_channel r S s t A c h ch x sub (λ u. channel_sr u.profile r.m (optical_radius c x ch))
       (λ o f o' g i.
-      ap (cancelled (opticalRadius c x ch))
-      (tensor-same r.m s.profile t.profile o f (profiles-agree r s t o f i.same) o' g i.columns (finite-at f (rho-bounded r s c h H ch o f i.albedo-is)) (finite-at g (radius-bounded r s c h H x ch o' g i.radius-is))))
+      ap (cancelled (optical_radius c x ch))
+      (tensor_same r.m s.profile t.profile o f (profiles_agree r s t o f i.same) o' g i.columns (finite_at f (rho_bounded r s c h H ch o f i.albedo_is)) (finite_at g (radius_bounded r s c h H x ch o' g i.radius_is))))
       (λ o f. refl) (λ v. refl)
 
 -- ---- the calls
 
-module _ (r : Record) (s t : Lists) (c : Coefficients) (h : queryNumber r s c ≡ 0) where
+module _ (r : Record) (s t : Lists) (c : Coefficients) (h : query_number r s c ≡ 0) where
   -- a channel's rows are among those of all three
-  channel-among : (x : WorldRadius) (ch : RGBEnum) (k : ℕ) → among (pdfRows s ch c x) k ≡ true → among (srRows s c x) k ≡ true
-  unfolding srRows
-  channel-among x Red k h = append-left _ _ k h
-  channel-among x Green k h = append-right (pdfRows s Red c x) _ k (append-left _ _ k h)
-  channel-among x Blue k h = append-right (pdfRows s Red c x) _ k (append-right (pdfRows s Green c x) _ k h)
+  channel_among : (x : WorldRadius) (ch : RGBEnum) (k : ℕ) → among (pdf_rows s ch c x) k ≡ true → among (sr_rows s c x) k ≡ true
+  unfolding sr_rows
+  channel_among x Red k h = append_left _ _ k h
+  channel_among x Green k h = append_right (pdf_rows s Red c x) _ k (append_left _ _ k h)
+  channel_among x Blue k h = append_right (pdf_rows s Red c x) _ k (append_right (pdf_rows s Green c x) _ k h)
 
-  pub unclamped-same : (x : WorldRadius) → NodesHold s → Alike r (among (srRows s c x)) s t → unclamped r s c x ≡ unclamped r t c x
+  pub unclamped_same : (x : WorldRadius) → NodesHold s → Alike r (among (sr_rows s c x)) s t → unclamped r s c x ≡ unclamped r t c x
   unfolding unclamped
-  unclamped-same x H A =
-      let same : (ch : RGBEnum) → channelAt r s c x ch ≡ channelAt r t c x ch = λ ch. channel-same r _ s t A c h ch x (channel-among x ch) H in
-      λ i. times (rgb (same Red i) (same Green i) (same Blue i)) (times (sigmaT c) (sigmaT c))
+  unclamped_same x H A =
+      let same : (ch : RGBEnum) → channel_at r s c x ch ≡ channel_at r t c x ch = λ ch. channel_same r _ s t A c h ch x (channel_among x ch) H in
+      λ i. times (rgb (same Red i) (same Green i) (same Blue i)) (times (sigma_t c) (sigma_t c))
 
 -- a draw, by the albedo alone
-module _ (r : Record) (s t : Lists) (ch : RGBEnum) (c : Coefficients) (h : queryNumber r s c ≡ 0) (A : Alike r (among (sampleRows s ch c)) s t) (u : Float) (allowance : ℕ) where
-  by-albedo : (w : Weights) → albedoWeights s c ch ≡ w → ((k : ℕ) → among (rowsOf w) k ≡ true → among (sampleRows s ch c) k ≡ true)
-      → drawFrom s.radiusSamples s.profile s.profileCdf w u allowance ≡ drawFrom s.radiusSamples t.profile t.profileCdf w u allowance
-  unfolding rowsOf drawFrom
-  by-albedo (At o f) p needed =
-      let e = (query-accepted r s c h).sizes.fits.radius-fits in
-      let same : (k : ℕ) → among (weightedRows o f) k ≡ true → rowAt r s k ≡ rowAt r t k = λ k l. A.row k (albedo-rows r s c h k ch (rw p l)) (needed k l) in
-      draw-same s.radiusSamples s.profile t.profile s.profileCdf t.profileCdf o f (two-radii r s c h)
-      (rw e (profiles-agree r s t o f same)) (rw e (cdfs-agree r s t o f same)) u allowance
-  by-albedo Outside p needed = refl
+module _ (r : Record) (s t : Lists) (ch : RGBEnum) (c : Coefficients) (h : query_number r s c ≡ 0) (A : Alike r (among (sample_rows s ch c)) s t) (u : Float) (allowance : ℕ) where
+  by_albedo : (w : Weights) → albedo_weights s c ch ≡ w → ((k : ℕ) → among (rows_of w) k ≡ true → among (sample_rows s ch c) k ≡ true)
+      → draw_from s.radius_samples s.profile s.profile_cdf w u allowance ≡ draw_from s.radius_samples t.profile t.profile_cdf w u allowance
+  unfolding rows_of draw_from
+  by_albedo (At o f) p needed =
+      let e = (query_accepted r s c h).sizes.fits.radius_fits in
+      let same : (k : ℕ) → among (weighted_rows o f) k ≡ true → row_at r s k ≡ row_at r t k = λ k l. A.row k (albedo_rows r s c h k ch (rw p l)) (needed k l) in
+      draw_same s.radius_samples s.profile t.profile s.profile_cdf t.profile_cdf o f (two_radii r s c h)
+      (rw e (profiles_agree r s t o f same)) (rw e (cdfs_agree r s t o f same)) u allowance
+  by_albedo Outside p needed = refl
 
-  pub drawn-same : drawnAt s ch c u allowance ≡ drawnAt t ch c u allowance
-  unfolding drawnAt sampleCatmullRom2d albedoWeights sampleRows
-  drawn-same = go (eq sigma (lit 0)) refl
+  pub drawn_same : drawn_at s ch c u allowance ≡ drawn_at t ch c u allowance
+  unfolding drawn_at sample_catmull_rom_2d albedo_weights sample_rows
+  drawn_same = go (eq sigma (lit 0)) refl
     where
       sigma : Float
-      sigma = channel (sigmaT c) ch
+      sigma = channel (sigma_t c) ch
 
       draw : List Float → List Float → Lists → Answer
-      draw rhos radii v = divided sigma (drawFrom radii v.profile v.profileCdf (catmullRomWeights rhos (channel (rho c) ch)) u allowance)
+      draw rhos radii v = divided sigma (draw_from radii v.profile v.profile_cdf (catmull_rom_weights rhos (channel (rho c) ch)) u allowance)
 
       go : (b : Bool) → eq sigma (lit 0) ≡ b
-          → cond b (drawnValue (neg one) 0) (draw s.rhoSamples s.radiusSamples s) ≡ cond b (drawnValue (neg one) 0) (draw t.rhoSamples t.radiusSamples t)
+          → cond b (drawn_value (neg one) 0) (draw s.rho_samples s.radius_samples s) ≡ cond b (drawn_value (neg one) 0) (draw t.rho_samples t.radius_samples t)
       go true e = refl
-      go false e = ap (divided sigma) (by-albedo (albedoWeights s c ch) refl (λ k l. rw e l)) ∙ (λ i. draw (A.rho i) (A.radii i) t)
+      go false e = ap (divided sigma) (by_albedo (albedo_weights s c ch) refl (λ k l. rw e l)) ∙ (λ i. draw (A.rho i) (A.radii i) t)

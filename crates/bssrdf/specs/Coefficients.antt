@@ -9,23 +9,23 @@ use Rattle.bssrdf.specs.declared.coefficients.WorldRadius.{WorldRadius}
 use Rattle.bssrdf.specs.declared.coefficients.OpticalRadius.{OpticalRadius}
 
 -- sigma_a + sigma_s
-unfoldable pub sigmaT : Coefficients → Spectrum
-sigmaT c = plus c.sigma_a c.sigma_s
+unfoldable pub sigma_t : Coefficients → Spectrum
+sigma_t c = plus c.sigma_a c.sigma_s
 
 -- the albedo of a channel: sigma_s / sigma_t, or 0 where sigma_t is 0
 unfoldable pub albedo : Float → Float → Float
-albedo sigmaS sigmaT = cond (eq sigmaT (lit 0)) (lit 0) (sigmaS ⊘ sigmaT)
+albedo sigma_s sigma_t = cond (eq sigma_t (lit 0)) (lit 0) (sigma_s ⊘ sigma_t)
 
 unfoldable pub rho : Coefficients → Spectrum
 rho c =
     let s = c.sigma_s in
-    let t = sigmaT c in
+    let t = sigma_t c in
     rgb (albedo s.r t.r) (albedo s.g t.g) (albedo s.b t.b)
 
 -- the optical radius of a world radius: its product with the channel's sigma_t
 unfoldable pub optical : WorldRadius → Float → OpticalRadius
-optical x sigmaT = record { 0 = x.0 ⊗ sigmaT }
+optical x sigma_t = record { 0 = x.0 ⊗ sigma_t }
 
 -- its value among the radius nodes, which are optical radii too
-abbrev pub meanFreePaths : OpticalRadius → Float
-meanFreePaths x = x.0
+abbrev pub mean_free_paths : OpticalRadius → Float
+mean_free_paths x = x.0

@@ -4,7 +4,7 @@ use Rattle.std.specs.Float.Ieee.{eq}
 use Rattle.elementary.specs.Notation.{◌⊕◌, ◌⊗◌, ◌⊘◌, lit}
 use Rattle.elementary.specs.Sign.{max0}
 use Rattle.answers.specs.Answer.{Answer, refusal, value}
-use Rattle.interpolation.specs.Weights.{weightAt}
+use Rattle.interpolation.specs.Weights.{weight_at}
 use Rattle.interpolation.specs.Blend.{interpolate}
 use Rattle.interpolation.specs.declared.weights.Four.{Four}
 use Rattle.interpolation.specs.declared.weights.Weights.{Weights}
@@ -13,12 +13,12 @@ use Rattle.scattering.specs.Spectrum.{channel}
 use Rattle.scattering.specs.declared.spectrum.RGBEnum.{RGBEnum}
 use Rattle.table.specs.Parameters.{Lists}
 use Rattle.table.specs.declared.parameters.Record.{Record}
-use Rattle.bssrdf.specs.Coefficients.{sigmaT}
-use Rattle.bssrdf.specs.Axes.{opticalRadius, albedoWeights, radiusWeights}
-use Rattle.bssrdf.specs.Needed.{pdfRows}
-use Rattle.bssrdf.specs.Checks.{queryNumber}
+use Rattle.bssrdf.specs.Coefficients.{sigma_t}
+use Rattle.bssrdf.specs.Axes.{optical_radius, albedo_weights, radius_weights}
+use Rattle.bssrdf.specs.Needed.{pdf_rows}
+use Rattle.bssrdf.specs.Checks.{query_number}
 use Rattle.bssrdf.specs.Question.{Question, posed}
-use Rattle.bssrdf.specs.Radiance.{evalProfile, overFour, cancelled}
+use Rattle.bssrdf.specs.Radiance.{eval_profile, over_four, cancelled}
 use Rattle.bssrdf.specs.declared.coefficients.Coefficients.{Coefficients}
 use Rattle.bssrdf.specs.declared.coefficients.WorldRadius.{WorldRadius}
 use Rattle.bssrdf.specs.declared.coefficients.OpticalRadius.{OpticalRadius}
@@ -26,43 +26,43 @@ use Rattle.bssrdf.specs.declared.density.Density as Declared
 use Rattle.bssrdf.specs.declared.density.Density.TheVariants.{Value, Refused}
 
 -- a place of the sum: it is skipped where the radius weight is zero, and so is a whole row where the albedo weight is
-unfoldable pub addTerm : Float → Float → Float → Float → Float
-addTerm rhoWeight radiusWeight entry v = cond (eq radiusWeight (lit 0)) v (v ⊕ entry ⊗ rhoWeight ⊗ radiusWeight)
+unfoldable pub add_term : Float → Float → Float → Float → Float
+add_term rho_weight radius_weight entry v = cond (eq radius_weight (lit 0)) v (v ⊕ entry ⊗ rho_weight ⊗ radius_weight)
 
-unfoldable pub addEntry : List Float → ℕ → ℤ → Four → ℤ → Four → ℕ → ℕ → Float → Float
-addEntry profile m rhoOffset f radiusOffset g i j = addTerm (weightAt f i) (weightAt g j) (evalProfile profile m rhoOffset radiusOffset i j)
+unfoldable pub add_entry : List Float → ℕ → ℤ → Four → ℤ → Four → ℕ → ℕ → Float → Float
+add_entry profile m rho_offset f radius_offset g i j = add_term (weight_at f i) (weight_at g j) (eval_profile profile m rho_offset radius_offset i j)
 
-unfoldable pub addEntries : List Float → ℕ → ℤ → Four → ℤ → Four → ℕ → Float → Float
-addEntries profile m rhoOffset f radiusOffset g i v =
-    cond (eq (weightAt f i) (lit 0)) v (overFour (addEntry profile m rhoOffset f radiusOffset g i) v)
+unfoldable pub add_entries : List Float → ℕ → ℤ → Four → ℤ → Four → ℕ → Float → Float
+add_entries profile m rho_offset f radius_offset g i v =
+    cond (eq (weight_at f i) (lit 0)) v (over_four (add_entry profile m rho_offset f radius_offset g i) v)
 
-unfoldable pub profileSum : List Float → ℕ → ℤ → Four → ℤ → Four → Float
-profileSum profile m rhoOffset f radiusOffset g = overFour (addEntries profile m rhoOffset f radiusOffset g) (lit 0)
+unfoldable pub profile_sum : List Float → ℕ → ℤ → Four → ℤ → Four → Float
+profile_sum profile m rho_offset f radius_offset g = over_four (add_entries profile m rho_offset f radius_offset g) (lit 0)
 
 -- the effective albedos blended over the rows of nonzero weight: the list is a table with one column
-unfoldable pub blendedAlbedo : List Float → ℤ → Four → Float
-blendedAlbedo rhoEff rhoOffset f = interpolate rhoEff 1 rhoOffset f 0
+unfoldable pub blended_albedo : List Float → ℤ → Four → Float
+blended_albedo rho_eff rho_offset f = interpolate rho_eff 1 rho_offset f 0
 
 -- a channel's density: 0 where the albedo or the radius is outside
-unfoldable pub densityOf : List Float → List Float → ℕ → Float → OpticalRadius → Weights → Weights → Float
-densityOf profile rhoEff m sigmaT x (At rhoOffset f) (At radiusOffset g) =
-    max0 (cancelled x (profileSum profile m rhoOffset f radiusOffset g) ⊗ sigmaT ⊗ sigmaT ⊘ blendedAlbedo rhoEff rhoOffset f)
-densityOf profile rhoEff m sigmaT x (At rhoOffset f) Outside = lit 0
-densityOf profile rhoEff m sigmaT x Outside w = lit 0
+unfoldable pub density_of : List Float → List Float → ℕ → Float → OpticalRadius → Weights → Weights → Float
+density_of profile rho_eff m sigma_t x (At rho_offset f) (At radius_offset g) =
+    max0 (cancelled x (profile_sum profile m rho_offset f radius_offset g) ⊗ sigma_t ⊗ sigma_t ⊘ blended_albedo rho_eff rho_offset f)
+density_of profile rho_eff m sigma_t x (At rho_offset f) Outside = lit 0
+density_of profile rho_eff m sigma_t x Outside w = lit 0
 
-unfoldable pub densityAt : Record → Lists → RGBEnum → Coefficients → WorldRadius → Float
-densityAt r t ch c x =
-    densityOf t.profile t.rhoEff r.m (channel (sigmaT c) ch) (opticalRadius c x ch) (albedoWeights t c ch) (radiusWeights t c x ch)
+unfoldable pub density_at : Record → Lists → RGBEnum → Coefficients → WorldRadius → Float
+density_at r t ch c x =
+    density_of t.profile t.rho_eff r.m (channel (sigma_t c) ch) (optical_radius c x ch) (albedo_weights t c ch) (radius_weights t c x ch)
 
 -- ---- the call
 
-unfoldable pub pdfTold : Declared.Density → Answer
-pdfTold (Value v) = value (v ∷ []) []
-pdfTold (Refused number) = refusal number
+unfoldable pub pdf_told : Declared.Density → Answer
+pdf_told (Value v) = value (v ∷ []) []
+pdf_told (Refused number) = refusal number
 
 -- 1 to 6 and 8; the rows of the channel; then its density
-unfoldable pub pdfQuestion : Record → RGBEnum → Coefficients → WorldRadius → Lists → Question
-pdfQuestion r ch c x t = record { order = queryNumber r t c; rows = pdfRows t ch c x; built = value (densityAt r t ch c x ∷ []) [] }
+unfoldable pub pdf_question : Record → RGBEnum → Coefficients → WorldRadius → Lists → Question
+pdf_question r ch c x t = record { order = query_number r t c; rows = pdf_rows t ch c x; built = value (density_at r t ch c x ∷ []) [] }
 
-unfoldable pub pdfSr : Record → Lists → RGBEnum → Coefficients → WorldRadius → Answer
-pdfSr r t ch c x = posed t.marks (pdfQuestion r ch c x t)
+unfoldable pub pdf_sr : Record → Lists → RGBEnum → Coefficients → WorldRadius → Answer
+pdf_sr r t ch c x = posed t.marks (pdf_question r ch c x t)

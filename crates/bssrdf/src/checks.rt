@@ -1,12 +1,12 @@
 // The checks of document 01's table that concern queries alone, and the checks that a query makes
 // before 11. Each gives its number, or 0 where it refuses nothing.
 ghost use Rattle.std.specs.Prelude.{◌&&◌, [], ◌∷◌, ◌≡◌, ◌≤◌, length};
-ghost use Rattle.answers.specs.Checks.{firstOf};
+ghost use Rattle.answers.specs.Checks.{first_of};
 ghost use Rattle.elementary.specs.Notation.{◌⊕◌};
 ghost use Rattle.interpolation.specs.Checks.{check6, check9, check10};
 ghost use Rattle.interpolation.specs.Nodes.{finite};
-ghost use Rattle.table.specs.Checks.{startNumber};
-ghost use Rattle.table.specs.Parameters.{lists, lengthsOf};
+ghost use Rattle.table.specs.Checks.{start_number};
+ghost use Rattle.table.specs.Parameters.{lists, lengths_of};
 ghost use Rattle.bssrdf.specs.Checks as Checks;
 
 use crate::coefficients::Coefficients;
@@ -19,7 +19,7 @@ use table::{Lengths, Record};
 // 0 on, so that neither is a NaN, a sum below infinity says that they are finite too.
 #[tactic(auto, using(crate::proofs::FiniteSums::testing))]
 fn channel_ok(sigma_a: f32, sigma_s: f32) -> bool
-    ensures { result ≡ (Checks.coefficientOk sigma_a && Checks.coefficientOk sigma_s && finite (sigma_a ⊕ sigma_s)) }
+    ensures { result ≡ (Checks.coefficient_ok sigma_a && Checks.coefficient_ok sigma_s && finite (sigma_a ⊕ sigma_s)) }
 {
     (0.0 <= sigma_a) & (0.0 <= sigma_s) & (sigma_a + sigma_s < elementary::infinity())
 }
@@ -48,7 +48,7 @@ pub fn rows_number(
     profile_cdf: &[f32],
     marks: &[u8],
 ) -> u32
-    ensures { result ≡ firstOf (startNumber r (lengthsOf (lists rho_samples.now radius_samples.now profile.now rho_eff.now profile_cdf.now marks.now)) ∷ check6 rho_samples.now ∷ []) }
+    ensures { result ≡ first_of (start_number r (lengths_of (lists rho_samples.now radius_samples.now profile.now rho_eff.now profile_cdf.now marks.now)) ∷ check6 rho_samples.now ∷ []) }
 {
     let lengths = Lengths {
         rho_samples: rho_samples.len(),
@@ -65,7 +65,7 @@ pub fn rows_number(
 #[tactic(auto, using(crate::proofs::TwoParts::refusing))]
 pub fn radii_number(radius_samples: &[f32], c: Coefficients) -> u32
     requires { 2 ≤ length radius_samples.now }
-    ensures { result ≡ firstOf (check6 radius_samples.now ∷ Checks.check8 c ∷ []) }
+    ensures { result ≡ first_of (check6 radius_samples.now ∷ Checks.check8 c ∷ []) }
 {
     first_of!(check_nodes(radius_samples), check_coefficients(c))
 }
@@ -82,7 +82,7 @@ pub fn query_number(
     marks: &[u8],
     c: Coefficients,
 ) -> u32
-    ensures { result ≡ Checks.queryNumber r (lists rho_samples.now radius_samples.now profile.now rho_eff.now profile_cdf.now marks.now) c }
+    ensures { result ≡ Checks.query_number r (lists rho_samples.now radius_samples.now profile.now rho_eff.now profile_cdf.now marks.now) c }
 {
     first_of!(
         rows_number(
@@ -102,7 +102,7 @@ pub fn query_number(
 #[tactic(auto, using(crate::proofs::TwoParts::refusing))]
 pub fn draw_number(radius_samples: &[f32], c: Coefficients, u: f32, allowance: u32) -> u32
     requires { 2 ≤ length radius_samples.now }
-    ensures { result ≡ firstOf (firstOf (check6 radius_samples.now ∷ Checks.check8 c ∷ []) ∷ check9 u ∷ check10 allowance ∷ []) }
+    ensures { result ≡ first_of (first_of (check6 radius_samples.now ∷ Checks.check8 c ∷ []) ∷ check9 u ∷ check10 allowance ∷ []) }
 {
     first_of!(
         radii_number(radius_samples, c),

@@ -26,9 +26,9 @@ fn albedo(sigma_s: f32, sigma_t: f32) -> f32
 
 impl Coefficients {
     // The sum of absorption and scattering.
-    #[tactic(auto, unfolding(crate::specs::Coefficients::sigmaT))]
+    #[tactic(auto, unfolding(crate::specs::Coefficients::sigma_t))]
     pub fn sigma_t(self) -> Spectrum
-        ensures { result ≡ Spec.sigmaT self }
+        ensures { result ≡ Spec.sigma_t self }
     {
         let sigma_a = self.sigma_a;
         sigma_a.add(self.sigma_s)
@@ -80,7 +80,7 @@ impl WorldRadius {
 impl OpticalRadius {
     // Its value among the radius nodes, which are optical radii too.
     pub fn mean_free_paths(self) -> f32
-        ensures { result ≡ Spec.meanFreePaths self }
+        ensures { result ≡ Spec.mean_free_paths self }
     {
         self.0
     }

@@ -4,11 +4,11 @@ ghost use Rattle.std.specs.Float.Ieee.{eq};
 ghost use Rattle.std.specs.Float.{nan};
 ghost use Rattle.elementary.specs.Notation.{lit};
 ghost use Rattle.interpolation.specs.Laws.{Reach};
-ghost use Rattle.interpolation.specs.Weights.{offsetOf, weightAt};
-ghost use Rattle.interpolation.specs.Blend.{rowOf, InTable};
+ghost use Rattle.interpolation.specs.Weights.{offset_of, weight_at};
+ghost use Rattle.interpolation.specs.Blend.{row_of, InTable};
 ghost use Rattle.interpolation.specs.declared.weights.Weights.TheVariants.{At};
 ghost use Rattle.table.specs.Parameters.{lists};
-ghost use Rattle.bssrdf.specs.Radiance.{overFour};
+ghost use Rattle.bssrdf.specs.Radiance.{over_four};
 ghost use Rattle.bssrdf.specs.Density as Spec;
 
 use crate::axes::is_inside;
@@ -31,11 +31,11 @@ pub enum Density {
 
 // The sum with one place, which is read only where the radius weight q is not zero. Rows and radii
 // count from 1 here.
-#[tactic(auto, unfolding(crate::specs::Density::addTerm))]
+#[tactic(auto, unfolding(crate::specs::Density::add_term))]
 fn add_entry(profile: &[f32], m: usize, row: usize, col: usize, p: f32, q: f32, v: f32) -> f32
     requires row_held { (1 ≤ row) × (row * m ≤ length profile.now) }
     requires col_held { eq q (lit 0) ≡ false → (1 ≤ col) × (col ≤ m) }
-    ensures { result ≡ Spec.addTerm p q (get_or profile.now ((row - 1) * m + (col - 1)) nan) v }
+    ensures { result ≡ Spec.add_term p q (get_or profile.now ((row - 1) * m + (col - 1)) nan) v }
 {
     if q == 0.0 {
         return v;
@@ -49,7 +49,7 @@ fn add_entry(profile: &[f32], m: usize, row: usize, col: usize, p: f32, q: f32, 
 fn add_entries(profile: &[f32], m: usize, row: usize, j: usize, p: f32, g: Four, v: f32) -> f32
     requires reach { Reach g j m × (j ≤ 0x7fff_ffff) }
     requires row_held { eq p (lit 0) ≡ false → (1 ≤ row) × (row * m ≤ length profile.now) }
-    ensures { result ≡ cond (eq p (lit 0)) v (overFour (λ k. Spec.addTerm p (weightAt g k) (get_or profile.now ((row - 1) * m + rowOf (offsetOf j) k) nan)) v) }
+    ensures { result ≡ cond (eq p (lit 0)) v (over_four (λ k. Spec.add_term p (weight_at g k) (get_or profile.now ((row - 1) * m + row_of (offset_of j) k) nan)) v) }
 {
     if p == 0.0 {
         return v;
@@ -65,7 +65,7 @@ fn add_entries(profile: &[f32], m: usize, row: usize, j: usize, p: f32, g: Four,
 fn profile_sum(profile: &[f32], m: usize, i: usize, f: Four, j: usize, g: Four) -> f32
     requires in_table { InTable profile.now m i f × Reach g j m }
     requires small { (i ≤ 0x7fff_ffff) × (j ≤ 0x7fff_ffff) }
-    ensures { result ≡ Spec.profileSum profile.now m (offsetOf i) f (offsetOf j) g }
+    ensures { result ≡ Spec.profile_sum profile.now m (offset_of i) f (offset_of j) g }
 {
     let v0 = add_entries(profile, m, i, j, f.w0, g, 0.0);
     let v1 = add_entries(profile, m, i + 1, j, f.w1, g, v0);
@@ -75,7 +75,7 @@ fn profile_sum(profile: &[f32], m: usize, i: usize, f: Four, j: usize, g: Four) 
 
 // A channel's density where it is inside, for the albedo weights in the interval i and the radius
 // weights in the interval j.
-#[tactic(auto, unfolding(crate::specs::Density::densityOf, crate::specs::Density::blendedAlbedo))]
+#[tactic(auto, unfolding(crate::specs::Density::density_of, crate::specs::Density::blended_albedo))]
 fn inside_density(
     profile: &[f32],
     rho_eff: &[f32],
@@ -89,7 +89,7 @@ fn inside_density(
 ) -> f32
     requires in_table { InTable profile.now m i f × Reach g j m × InTable rho_eff.now 1 i f }
     requires i_bound { (i ≤ 0x7fff_ffff) × (j ≤ 0x7fff_ffff) }
-    ensures { result ≡ Spec.densityOf profile.now rho_eff.now m sigma_t x (At (offsetOf i) f) (At (offsetOf j) g) }
+    ensures { result ≡ Spec.density_of profile.now rho_eff.now m sigma_t x (At (offset_of i) f) (At (offset_of j) g) }
 {
     let sum = cancel(x, profile_sum(profile, m, i, f, j, g));
     let albedo = blend(rho_eff, 1, i, f, 0);
@@ -98,7 +98,7 @@ fn inside_density(
 
 // The density with which `sample_sr` draws the world radius x in the channel ch. The lists are only
 // read. Refusals: 1 to 6, 8, 11.
-#[tactic(auto, using(crate::proofs::OneChannel::pdf_by_tests, crate::proofs::TwoParts::passing, crate::proofs::Cells::searching), unfolding(crate::specs::Density::pdfTold, crate::specs::Axes::opticalRadius))]
+#[tactic(auto, using(crate::proofs::OneChannel::pdf_by_tests, crate::proofs::TwoParts::passing, crate::proofs::Cells::searching), unfolding(crate::specs::Density::pdf_told, crate::specs::Axes::optical_radius))]
 pub fn pdf_sr(
     r: Record,
     rho_samples: &[f32],
@@ -111,7 +111,7 @@ pub fn pdf_sr(
     c: Coefficients,
     x: WorldRadius,
 ) -> Density
-    ensures { Spec.pdfTold result ≡ Spec.pdfSr r (lists rho_samples.now radius_samples.now profile.now rho_eff.now profile_cdf.now marks.now) ch c x }
+    ensures { Spec.pdf_told result ≡ Spec.pdf_sr r (lists rho_samples.now radius_samples.now profile.now rho_eff.now profile_cdf.now marks.now) ch c x }
 {
     let rows = rows_number(
         r,

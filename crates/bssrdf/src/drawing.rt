@@ -21,9 +21,9 @@ pub enum Drawn {
 }
 
 // A position drawn, in the world's units.
-#[tactic(auto, unfolding(crate::specs::Drawing::drawnTold, crate::specs::Drawing::divided))]
+#[tactic(auto, unfolding(crate::specs::Drawing::drawn_told, crate::specs::Drawing::divided))]
 fn divide(sample: Sample, sigma_t: f32) -> Drawn
-    ensures { Spec.drawnTold result ≡ Spec.divided sigma_t sample }
+    ensures { Spec.drawn_told result ≡ Spec.divided sigma_t sample }
 {
     match sample {
         Sample::At(position, _, _, rounds) => Drawn::Radius(position / sigma_t, rounds),
@@ -34,7 +34,7 @@ fn divide(sample: Sample, sigma_t: f32) -> Drawn
 
 // Draws a world radius in the channel ch: u picks the place, and `allowance` is the most rounds that
 // may be made. The lists are only read. Refusals: 1 to 6, 8 to 11, 13.
-#[tactic(auto, using(crate::proofs::OneChannel::sample_by_tests, crate::proofs::TwoParts::passing, crate::proofs::Cells::searching), unfolding(crate::specs::Drawing::drawnTold))]
+#[tactic(auto, using(crate::proofs::OneChannel::sample_by_tests, crate::proofs::TwoParts::passing, crate::proofs::Cells::searching), unfolding(crate::specs::Drawing::drawn_told))]
 pub fn sample_sr(
     r: Record,
     rho_samples: &[f32],
@@ -48,7 +48,7 @@ pub fn sample_sr(
     u: f32,
     allowance: u32,
 ) -> Drawn
-    ensures { Spec.drawnTold result ≡ Spec.sampleSr r (lists rho_samples.now radius_samples.now profile.now rho_eff.now profile_cdf.now marks.now) ch c u allowance }
+    ensures { Spec.drawn_told result ≡ Spec.sample_sr r (lists rho_samples.now radius_samples.now profile.now rho_eff.now profile_cdf.now marks.now) ch c u allowance }
 {
     let rows = rows_number(
         r,

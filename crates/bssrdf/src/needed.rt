@@ -2,19 +2,19 @@
 ghost use Rattle.std.specs.Prelude.{◌≡◌, cond, true, false, [], ◌++◌, ℕ, ◌-◌, ◌≤◌, ◌<◌, length, get_or};
 ghost use Rattle.std.specs.Float.Ieee.{eq};
 ghost use Rattle.elementary.specs.Notation.{lit};
-ghost use Rattle.interpolation.specs.Weights.{offsetOf};
+ghost use Rattle.interpolation.specs.Weights.{offset_of};
 ghost use Rattle.interpolation.specs.Laws.{Reach};
-ghost use Rattle.bssrdf.specs.Axes.{fourOf, weightsBy};
+ghost use Rattle.bssrdf.specs.Axes.{four_of, weights_by};
 ghost use Rattle.bssrdf.specs.Needed as Needed;
 
 use crate::axes::four_of;
 use interpolation::weights::Four;
 
 // Whether the row is marked built, or not needed since its weight w is zero. Rows count from 1 here.
-#[tactic(auto, unfolding(crate::specs::Needed::isMarked))]
+#[tactic(auto, unfolding(crate::specs::Needed::is_marked))]
 fn is_ready(marks: &[u8], row: usize, w: f32) -> bool
     requires { eq w (lit 0) ≡ false → (1 ≤ row) × (row ≤ length marks.now) }
-    ensures { result ≡ cond (eq w (lit 0)) true (Needed.isMarked marks.now (row - 1)) }
+    ensures { result ≡ cond (eq w (lit 0)) true (Needed.is_marked marks.now (row - 1)) }
 {
     if w == 0.0 {
         return true;
@@ -26,7 +26,7 @@ fn is_ready(marks: &[u8], row: usize, w: f32) -> bool
 #[tactic(auto, using(crate::proofs::Marks::marking))]
 pub fn are_marked(marks: &[u8], i: usize, f: Four) -> bool
     requires { Reach f i (length marks.now) × (i ≤ 0x7fff_ffff) }
-    ensures { result ≡ Needed.allMarked marks.now (Needed.weightedRows (offsetOf i) f) }
+    ensures { result ≡ Needed.all_marked marks.now (Needed.weighted_rows (offset_of i) f) }
 {
     let ready0 = is_ready(marks, i, f.w0);
     let ready1 = is_ready(marks, i + 1, f.w1);
@@ -36,11 +36,11 @@ pub fn are_marked(marks: &[u8], i: usize, f: Four) -> bool
 }
 
 // The same of one channel of three, which needs no row where it is outside.
-#[tactic(auto, unfolding(crate::specs::Axes::weightsBy, crate::specs::Needed::rowsOf, crate::specs::Needed::allMarked))]
+#[tactic(auto, unfolding(crate::specs::Axes::weights_by, crate::specs::Needed::rows_of, crate::specs::Needed::all_marked))]
 fn is_channel_ready(marks: &[u8], inside: bool, i: usize, weights: [f32; 4]) -> bool
-    requires reach { inside ≡ true → Reach (fourOf weights) i (length marks.now) }
+    requires reach { inside ≡ true → Reach (four_of weights) i (length marks.now) }
     requires small { i ≤ 0x7fff_ffff }
-    ensures { result ≡ Needed.allMarked marks.now (Needed.rowsOf (weightsBy inside i weights)) }
+    ensures { result ≡ Needed.all_marked marks.now (Needed.rows_of (weights_by inside i weights)) }
 {
     if inside {
         are_marked(marks, i, four_of(weights))
@@ -52,10 +52,10 @@ fn is_channel_ready(marks: &[u8], inside: bool, i: usize, weights: [f32; 4]) -> 
 // And of all three.
 #[tactic(auto, using(crate::proofs::Marks::marking))]
 pub fn are_ready(marks: &[u8], inside: [bool; 3], at: [usize; 3], weights: [[f32; 4]; 3]) -> bool
-    requires reach { (k : ℕ) → k < 3 → get_or inside k false ≡ true → Reach (fourOf (get_or weights k [])) (get_or at k 0) (length marks.now) }
+    requires reach { (k : ℕ) → k < 3 → get_or inside k false ≡ true → Reach (four_of (get_or weights k [])) (get_or at k 0) (length marks.now) }
     requires small { (k : ℕ) → k < 3 → get_or at k 0 ≤ 0x7fff_ffff }
-    ensures { result ≡ Needed.allMarked marks.now (Needed.rowsOf (weightsBy (get_or inside 0 false) (get_or at 0 0) (get_or weights 0 []))
-        ++ (Needed.rowsOf (weightsBy (get_or inside 1 false) (get_or at 1 0) (get_or weights 1 [])) ++ Needed.rowsOf (weightsBy (get_or inside 2 false) (get_or at 2 0) (get_or weights 2 [])))) }
+    ensures { result ≡ Needed.all_marked marks.now (Needed.rows_of (weights_by (get_or inside 0 false) (get_or at 0 0) (get_or weights 0 []))
+        ++ (Needed.rows_of (weights_by (get_or inside 1 false) (get_or at 1 0) (get_or weights 1 [])) ++ Needed.rows_of (weights_by (get_or inside 2 false) (get_or at 2 0) (get_or weights 2 [])))) }
 {
     let r = is_channel_ready(marks, inside[0], at[0], weights[0]);
     let g = is_channel_ready(marks, inside[1], at[1], weights[1]);

@@ -5,14 +5,14 @@ ghost use Rattle.std.specs.Float.{nan, inf};
 ghost use Rattle.elementary.specs.Notation.{lit};
 ghost use Rattle.interpolation.specs.Laws.{Reach, Bounded};
 ghost use Rattle.interpolation.specs.Nodes.{finite};
-ghost use Rattle.interpolation.specs.Weights.{offsetOf, weightAt};
-ghost use Rattle.interpolation.specs.Blend.{rowOf};
+ghost use Rattle.interpolation.specs.Weights.{offset_of, weight_at};
+ghost use Rattle.interpolation.specs.Blend.{row_of};
 ghost use Rattle.table.specs.Parameters.{lists};
 ghost use Rattle.answers.specs.Answer.{answered};
 ghost use Rattle.scattering.specs.Spectrum.{rgb, times, clamp};
-ghost use Rattle.scattering.specs.Exitance.{spectrumValue};
+ghost use Rattle.scattering.specs.Exitance.{spectrum_value};
 ghost use Rattle.bssrdf.specs.Coefficients.{optical};
-ghost use Rattle.bssrdf.specs.Axes.{fourOf, weightsBy};
+ghost use Rattle.bssrdf.specs.Axes.{four_of, weights_by};
 ghost use Rattle.bssrdf.specs.Checks.{check12};
 ghost use Rattle.bssrdf.specs.Radiance as Spec;
 
@@ -37,12 +37,12 @@ pub enum Radiance {
 
 // The sum with one place of the tensor spline, which is read only where the product of its two
 // weights is not zero. Rows and radii count from 1 here.
-#[tactic(auto, using(crate::proofs::Products::nonzero), unfolding(crate::specs::Radiance::addProduct))]
+#[tactic(auto, using(crate::proofs::Products::nonzero), unfolding(crate::specs::Radiance::add_product))]
 fn add_cell(profile: &[f32], m: usize, row: usize, col: usize, p: f32, q: f32, srf: f32) -> f32
     requires finite_weights { (finite p ≡ true) × (finite q ≡ true) }
     requires row_held { eq p (lit 0) ≡ false → (1 ≤ row) × (row * m ≤ length profile.now) }
     requires col_held { eq q (lit 0) ≡ false → (1 ≤ col) × (col ≤ m) }
-    ensures { result ≡ Spec.addProduct p q (get_or profile.now ((row - 1) * m + (col - 1)) nan) srf }
+    ensures { result ≡ Spec.add_product p q (get_or profile.now ((row - 1) * m + (col - 1)) nan) srf }
 {
     let weight = p * q;
     if weight == 0.0 {
@@ -57,7 +57,7 @@ fn add_cell(profile: &[f32], m: usize, row: usize, col: usize, p: f32, q: f32, s
 fn add_row(profile: &[f32], m: usize, row: usize, j: usize, p: f32, g: Four, srf: f32) -> f32
     requires weights { (finite p ≡ true) × Bounded g × Reach g j m × (j ≤ 0x7fff_ffff) }
     requires row_held { eq p (lit 0) ≡ false → (1 ≤ row) × (row * m ≤ length profile.now) }
-    ensures { result ≡ Spec.overFour (λ k. Spec.addProduct p (weightAt g k) (get_or profile.now ((row - 1) * m + rowOf (offsetOf j) k) nan)) srf }
+    ensures { result ≡ Spec.over_four (λ k. Spec.add_product p (weight_at g k) (get_or profile.now ((row - 1) * m + row_of (offset_of j) k) nan)) srf }
 {
     let v0 = add_cell(profile, m, row, j, p, g.w0, srf);
     let v1 = add_cell(profile, m, row, j + 1, p, g.w1, v0);
@@ -71,7 +71,7 @@ fn add_row(profile: &[f32], m: usize, row: usize, j: usize, p: f32, g: Four, srf
 fn tensor(profile: &[f32], m: usize, i: usize, f: Four, j: usize, g: Four) -> f32
     requires readable { Spec.Readable profile.now m i f j g }
     requires small { (i ≤ 0x7fff_ffff) × (j ≤ 0x7fff_ffff) }
-    ensures { result ≡ Spec.tensor profile.now m (offsetOf i) f (offsetOf j) g }
+    ensures { result ≡ Spec.tensor profile.now m (offset_of i) f (offset_of j) g }
 {
     let v0 = add_row(profile, m, i, j, f.w0, g, 0.0);
     let v1 = add_row(profile, m, i + 1, j, f.w1, g, v0);
@@ -89,7 +89,7 @@ pub fn cancel(x: OpticalRadius, v: f32) -> f32
 }
 
 // A channel in optical units: 0 where it is outside.
-#[tactic(auto, unfolding(crate::specs::Axes::weightsBy, crate::specs::Radiance::channelSr))]
+#[tactic(auto, unfolding(crate::specs::Axes::weights_by, crate::specs::Radiance::channel_sr))]
 fn channel_sr(
     profile: &[f32],
     m: usize,
@@ -100,9 +100,9 @@ fn channel_sr(
     j: usize,
     radius_weights: [f32; 4],
 ) -> f32
-    requires readable { inside ≡ true → Spec.Readable profile.now m i (fourOf rho_weights) j (fourOf radius_weights) }
+    requires readable { inside ≡ true → Spec.Readable profile.now m i (four_of rho_weights) j (four_of radius_weights) }
     requires i_bound { (i ≤ 0x7fff_ffff) × (j ≤ 0x7fff_ffff) }
-    ensures { result ≡ Spec.channelSr profile.now m x (weightsBy inside i rho_weights) (weightsBy inside j radius_weights) }
+    ensures { result ≡ Spec.channel_sr profile.now m x (weights_by inside i rho_weights) (weights_by inside j radius_weights) }
 {
     if inside {
         let sum = tensor(
@@ -132,11 +132,11 @@ fn three_channels(
     radius_weights: [[f32; 4]; 3],
 ) -> Spectrum
     requires by_index { (k : ℕ) → k < 3 → get_or inside k false ≡ true
-        → Spec.Readable profile.now m (get_or rho_at k 0) (fourOf (get_or rho_weights k [])) (get_or radius_at k 0) (fourOf (get_or radius_weights k [])) }
+        → Spec.Readable profile.now m (get_or rho_at k 0) (four_of (get_or rho_weights k [])) (get_or radius_at k 0) (four_of (get_or radius_weights k [])) }
     requires by_index_2 { (k : ℕ) → k < 3 → (get_or rho_at k 0 ≤ 0x7fff_ffff) × (get_or radius_at k 0 ≤ 0x7fff_ffff) }
-    ensures { result ≡ rgb (Spec.channelBy profile.now m (optical x sigma_t.r) inside rho_at rho_weights radius_at radius_weights 0)
-        (Spec.channelBy profile.now m (optical x sigma_t.g) inside rho_at rho_weights radius_at radius_weights 1)
-        (Spec.channelBy profile.now m (optical x sigma_t.b) inside rho_at rho_weights radius_at radius_weights 2) }
+    ensures { result ≡ rgb (Spec.channel_by profile.now m (optical x sigma_t.r) inside rho_at rho_weights radius_at radius_weights 0)
+        (Spec.channel_by profile.now m (optical x sigma_t.g) inside rho_at rho_weights radius_at radius_weights 1)
+        (Spec.channel_by profile.now m (optical x sigma_t.b) inside rho_at rho_weights radius_at radius_weights 2) }
 {
     let r = channel_sr(
         profile,
@@ -172,9 +172,9 @@ fn three_channels(
 }
 
 // The channels in the world's units, each clamped from 0 on; 12 where one is a NaN.
-#[tactic(auto, using(crate::proofs::Answering::answering), unfolding(crate::specs::Radiance::srTold))]
+#[tactic(auto, using(crate::proofs::Answering::answering), unfolding(crate::specs::Radiance::sr_told))]
 fn in_world(optical: Spectrum, sigma_t: Spectrum) -> Radiance
-    ensures { Spec.srTold result ≡ answered (check12 (times optical (times sigma_t sigma_t))) (spectrumValue (clamp (times optical (times sigma_t sigma_t)) (lit 0) (inf false))) }
+    ensures { Spec.sr_told result ≡ answered (check12 (times optical (times sigma_t sigma_t))) (spectrum_value (clamp (times optical (times sigma_t sigma_t)) (lit 0) (inf false))) }
 {
     let world = optical.mul(sigma_t.mul(sigma_t));
     if world.has_nans() {
@@ -185,7 +185,7 @@ fn in_world(optical: Spectrum, sigma_t: Spectrum) -> Radiance
 
 // The radiance that leaves at the world radius x from where it entered, in each channel. The lists
 // are only read. Refusals: 1 to 6, 8, 11, 12.
-#[tactic(auto, using(crate::proofs::AcceptedQueries::accepting, crate::proofs::Answering::answering), unfolding(crate::specs::Radiance::srTold, crate::specs::Radiance::sr, crate::specs::Radiance::srQuestion))]
+#[tactic(auto, using(crate::proofs::AcceptedQueries::accepting, crate::proofs::Answering::answering), unfolding(crate::specs::Radiance::sr_told, crate::specs::Radiance::sr, crate::specs::Radiance::sr_question))]
 pub fn sr(
     r: Record,
     rho_samples: &[f32],
@@ -197,7 +197,7 @@ pub fn sr(
     c: Coefficients,
     x: WorldRadius,
 ) -> Radiance
-    ensures { Spec.srTold result ≡ Spec.sr r (lists rho_samples.now radius_samples.now profile.now rho_eff.now profile_cdf.now marks.now) c x }
+    ensures { Spec.sr_told result ≡ Spec.sr r (lists rho_samples.now radius_samples.now profile.now rho_eff.now profile_cdf.now marks.now) c x }
 {
     let number = query_number(
         r,

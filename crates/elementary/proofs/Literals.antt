@@ -2,58 +2,58 @@
 use Rattle.std.proofs.Common.{◌≡◌, refl}
 use lib.Ieee.{binary32, binary64, round, of_bits}
 use Rattle.elementary.specs.Notation.{lit, one64, decimal}
-use Rattle.elementary.specs.Constants.{pi, inv4Pi}
+use Rattle.elementary.specs.Constants.{pi, inv_4_pi}
 use Rattle.elementary.specs.Exponential.{c256}
 use Rattle.elementary.specs.Logarithm.{two, c31, ln2}
 
 -- 3.14159265358979323846264338327950288
-pub pi-literal : pi ≡ decimal binary32 314159265358979323846264338327950288 35
+pub pi_literal : pi ≡ decimal binary32 314159265358979323846264338327950288 35
 unfolding round of_bits
-pi-literal = refl
+pi_literal = refl
 
 -- 0.079_577_471_545_947_667_88
-pub inv4Pi-literal : inv4Pi ≡ decimal binary32 7957747154594766788 20
+pub inv4_pi_literal : inv_4_pi ≡ decimal binary32 7957747154594766788 20
 unfolding round of_bits
-inv4Pi-literal = refl
+inv4_pi_literal = refl
 
 -- 0, 1, 89, 104 and 2 ^ -126, which is 1.17549435e-38, in binary32
-pub zero-literal : lit 0 ≡ decimal binary32 0 0
+pub zero_literal : lit 0 ≡ decimal binary32 0 0
 unfolding round of_bits
-zero-literal = refl
+zero_literal = refl
 
-pub one-literal : lit 0x3f80_0000 ≡ decimal binary32 1 0
+pub one_literal : lit 0x3f80_0000 ≡ decimal binary32 1 0
 unfolding round of_bits
-one-literal = refl
+one_literal = refl
 
-pub c89-literal : lit 0x42b2_0000 ≡ decimal binary32 89 0
+pub c89_literal : lit 0x42b2_0000 ≡ decimal binary32 89 0
 unfolding round of_bits
-c89-literal = refl
+c89_literal = refl
 
-pub c104-literal : lit 0x42d0_0000 ≡ decimal binary32 104 0
+pub c104_literal : lit 0x42d0_0000 ≡ decimal binary32 104 0
 unfolding round of_bits
-c104-literal = refl
+c104_literal = refl
 
-pub smallest-normal-literal : lit 0x0080_0000 ≡ decimal binary32 117549435 46
+pub smallest_normal_literal : lit 0x0080_0000 ≡ decimal binary32 117549435 46
 unfolding round of_bits
-smallest-normal-literal = refl
+smallest_normal_literal = refl
 
 -- 1, 2, 31, 256 and 0.6931471805599453 in binary64
-pub one64-literal : one64 ≡ decimal binary64 1 0
+pub one64_literal : one64 ≡ decimal binary64 1 0
 unfolding round of_bits
-one64-literal = refl
+one64_literal = refl
 
-pub two-literal : two ≡ decimal binary64 2 0
+pub two_literal : two ≡ decimal binary64 2 0
 unfolding round of_bits
-two-literal = refl
+two_literal = refl
 
-pub c31-literal : c31 ≡ decimal binary64 31 0
+pub c31_literal : c31 ≡ decimal binary64 31 0
 unfolding round of_bits
-c31-literal = refl
+c31_literal = refl
 
-pub c256-literal : c256 ≡ decimal binary64 256 0
+pub c256_literal : c256 ≡ decimal binary64 256 0
 unfolding round of_bits
-c256-literal = refl
+c256_literal = refl
 
-pub ln2-literal : ln2 ≡ decimal binary64 6931471805599453 16
+pub ln2_literal : ln2 ≡ decimal binary64 6931471805599453 16
 unfolding round of_bits
-ln2-literal = refl
+ln2_literal = refl

@@ -10,36 +10,36 @@ use Rattle.elementary.specs.Notation.{◌⊞◌, ◌⊠◌, ◌⧄◌, lit64, on
 use Rattle.elementary.specs.Exponential.{terms, squared}
 
 -- a term more, of a and of b
-pub two-terms : (k : Float) (y p : List Float) → length y ≡ 2
+pub two_terms : (k : Float) (y p : List Float) → length y ≡ 2
     → zip2 (λ x y. x ⊞ y) (one64 ∷ one64 ∷ []) (zip2 (λ x y. x ⊠ y) (zip2 (λ x y. x ⧄ y) y (k ∷ k ∷ [])) p) ≡ zip2 (λ y p. one64 ⊞ y ⧄ k ⊠ p) y p
-two-terms k [] p e = refl
-two-terms k (a ∷ []) [] e = refl
-two-terms k (a ∷ []) (x ∷ p) e = refl
-two-terms k (a ∷ b ∷ []) [] e = refl
-two-terms k (a ∷ b ∷ []) (x ∷ []) e = refl
-two-terms k (a ∷ b ∷ []) (x ∷ z ∷ p) e = refl
-two-terms k (a ∷ b ∷ c ∷ y) p e = absurd (omega arith)
+two_terms k [] p e = refl
+two_terms k (a ∷ []) [] e = refl
+two_terms k (a ∷ []) (x ∷ p) e = refl
+two_terms k (a ∷ b ∷ []) [] e = refl
+two_terms k (a ∷ b ∷ []) (x ∷ []) e = refl
+two_terms k (a ∷ b ∷ []) (x ∷ z ∷ p) e = refl
+two_terms k (a ∷ b ∷ c ∷ y) p e = absurd (omega arith)
 
 -- a squaring more
-pub squares-pair : (i : ℕ) (p : List Float) → 0 < i → length p ≡ 2 → map (squared (i - 1)) (zip2 (λ x y. x ⊠ y) p p) ≡ map (squared i) p
+pub squares_pair : (i : ℕ) (p : List Float) → 0 < i → length p ≡ 2 → map (squared (i - 1)) (zip2 (λ x y. x ⊠ y) p p) ≡ map (squared i) p
 unfolding squared
-squares-pair zero p h e = absurd (omega arith)
-squares-pair (suc i) [] h e = absurd (omega arith)
-squares-pair (suc i) (x ∷ []) h e = absurd (omega arith)
-squares-pair (suc i) (x ∷ y ∷ []) h e = let same : suc i - 1 ≡ i = omega arith in rw same refl
-squares-pair (suc i) (x ∷ y ∷ z ∷ p) h e = absurd (omega arith)
+squares_pair zero p h e = absurd (omega arith)
+squares_pair (suc i) [] h e = absurd (omega arith)
+squares_pair (suc i) (x ∷ []) h e = absurd (omega arith)
+squares_pair (suc i) (x ∷ y ∷ []) h e = let same : suc i - 1 ≡ i = omega arith in rw same refl
+squares_pair (suc i) (x ∷ y ∷ z ∷ p) h e = absurd (omega arith)
 
 -- with no squaring left
-pub squared-none : (i : ℕ) (p : List Float) → i ≤ 0 → map (squared i) p ≡ p
+pub squared_none : (i : ℕ) (p : List Float) → i ≤ 0 → map (squared i) p ≡ p
 unfolding squared
-squared-none (suc i) p z = absurd (omega arith)
-squared-none zero [] z = refl
-squared-none zero (x ∷ p) z = ap (λ q. x ∷ q) (squared-none zero p z)
+squared_none (suc i) p z = absurd (omega arith)
+squared_none zero [] z = refl
+squared_none zero (x ∷ p) z = ap (λ q. x ∷ q) (squared_none zero p z)
 
 -- ---- the series, term by term
 
-abbrev with-term : Float → Float → Float → Float
-with-term y k p = one64 ⊞ y ⧄ k ⊠ p
+abbrev with_term : Float → Float → Float → Float
+with_term y k p = one64 ⊞ y ⧄ k ⊠ p
 
 -- the literals of the code
 wholes : (lit64 0x3ff0_0000_0000_0000 ≡ whole64 1)
@@ -55,6 +55,6 @@ wholes : (lit64 0x3ff0_0000_0000_0000 ≡ whole64 1)
 unfolding of_int of_bits
 wholes = (refl, refl, refl, refl, refl, refl, refl, refl, refl, refl)
 
-pub terms_written : (y : Float) → with-term y (lit64 0x3ff0_0000_0000_0000) (with-term y (lit64 0x4000_0000_0000_0000) (with-term y (lit64 0x4008_0000_0000_0000) (with-term y (lit64 0x4010_0000_0000_0000) (with-term y (lit64 0x4014_0000_0000_0000) (with-term y (lit64 0x4018_0000_0000_0000) (with-term y (lit64 0x401c_0000_0000_0000) (with-term y (lit64 0x4020_0000_0000_0000) (with-term y (lit64 0x4022_0000_0000_0000) (with-term y (lit64 0x4024_0000_0000_0000) one64))))))))) ≡ terms 10 y one64
+pub terms_written : (y : Float) → with_term y (lit64 0x3ff0_0000_0000_0000) (with_term y (lit64 0x4000_0000_0000_0000) (with_term y (lit64 0x4008_0000_0000_0000) (with_term y (lit64 0x4010_0000_0000_0000) (with_term y (lit64 0x4014_0000_0000_0000) (with_term y (lit64 0x4018_0000_0000_0000) (with_term y (lit64 0x401c_0000_0000_0000) (with_term y (lit64 0x4020_0000_0000_0000) (with_term y (lit64 0x4022_0000_0000_0000) (with_term y (lit64 0x4024_0000_0000_0000) one64))))))))) ≡ terms 10 y one64
 unfolding terms
 terms_written y = rw (wholes.0, wholes.1, wholes.2, wholes.3, wholes.4, wholes.5, wholes.6, wholes.7, wholes.8, wholes.9) refl

@@ -8,10 +8,10 @@ use lib.Ieee.{Float, Format, nan, inf, fin, binary32, fits, odd, units, hid, one
 use lib.Ieee.Fits.{odd-fits, inf-fits}
 use lib.Ieee.Bits.{of_bits-fits, cond_no, is_true, is_false, nan_bits_above, nan_bits_is}
 use lib.Ieee.Exact.{HasValue, units_val}
-use Rattle.elementary.proofs.Values.{unique, read-low, read-high, read-top}
+use Rattle.elementary.proofs.Values.{unique, read_low, read_high, read_top}
 
-pub le-or-lt : (a b : ℕ) → (a ≤ b) ⊎ (b < a)
-le-or-lt a b = go (leb a b) (leb→le a b) (nleb→lt a b)
+pub le_or_lt : (a b : ℕ) → (a ≤ b) ⊎ (b < a)
+le_or_lt a b = go (leb a b) (leb→le a b) (nleb→lt a b)
   where
     go : (t : Bool) → (T t → a ≤ b) → (T (not t) → b < a) → (a ≤ b) ⊎ (b < a)
     go true h k = inl (h tt)
@@ -41,9 +41,9 @@ fields false x t X H =
 abbrev pub Kept : ℕ → ℕ → Type 0
 Kept q k = (q ≤ 2 ^ 24) × ((k ≡ 0) ⊎ (2 ^ 23 ≤ q))
 
-pub units-fits : (s : Bool) (q k : ℕ) → q ≤ 2 ^ 24 → T (fits binary32 (units binary32 s q k))
+pub units_fits : (s : Bool) (q k : ℕ) → q ≤ 2 ^ 24 → T (fits binary32 (units binary32 s q k))
 unfolding units
-units-fits s q k h = go (ltb (q * 2 ^ k) (2 ^ 277)) (ltb→lt (q * 2 ^ k) (2 ^ 277))
+units_fits s q k h = go (ltb (q * 2 ^ k) (2 ^ 277)) (ltb→lt (q * 2 ^ k) (2 ^ 277))
   where
     go : (b : Bool) → (T b → q * 2 ^ k < 2 ^ 277) → T (fits binary32 (cond b (odd 25 s q k 149) (inf s)))
     go true l = odd-fits binary32 25 s q k (lt_of_le_of_lt h (lit< tt)) h (l tt)
@@ -80,30 +80,30 @@ abbrev Split : Bool → ℕ → ℕ → Type 0
 Split s q k = (x : ℕ) × (t : ℕ) × (x < 255) × (t < 2 ^ 23) × (x * 2 ^ 23 + t ≡ k * 2 ^ 23 + q) × HasValue (of_fields binary32 s x t) s (q * 2 ^ k) (2 ^ 149)
 
 module _ (s : Bool) (q k : ℕ) (r : k * 2 ^ 23 + q < 255 * 2 ^ 23) where
-  split-low : q < 2 ^ 23 → k ≡ 0 → Split s q k
-  split-low h e =
-      (0, q, lit< tt, h, omega arith, subst (λ (j : ℕ). HasValue (of_fields binary32 s 0 q) s (q * 2 ^ j) (2 ^ 149)) (sym e) (read-low binary32 s q))
+  split_low : q < 2 ^ 23 → k ≡ 0 → Split s q k
+  split_low h e =
+      (0, q, lit< tt, h, omega arith, subst (λ (j : ℕ). HasValue (of_fields binary32 s 0 q) s (q * 2 ^ j) (2 ^ 149)) (sym e) (read_low binary32 s q))
 
-  split-mid : 2 ^ 23 ≤ q → q < 2 ^ 24 → Split s q k
-  split-mid l h =
+  split_mid : 2 ^ 23 ≤ q → q < 2 ^ 24 → Split s q k
+  split_mid l h =
       let x : suc k < 255 = omega arith in
       let back : 2 ^ 23 + (q - 2 ^ 23) ≡ q = omega arith in
-      (suc k, q - 2 ^ 23, x, omega arith, omega arith, subst (λ (n : ℕ). HasValue (of_fields binary32 s (suc k) (q - 2 ^ 23)) s (n * 2 ^ k) (2 ^ 149)) back (read-high binary32 s k (q - 2 ^ 23) x))
+      (suc k, q - 2 ^ 23, x, omega arith, omega arith, subst (λ (n : ℕ). HasValue (of_fields binary32 s (suc k) (q - 2 ^ 23)) s (n * 2 ^ k) (2 ^ 149)) back (read_high binary32 s k (q - 2 ^ 23) x))
 
-  split-end : q ≡ 2 ^ 24 → Split s q k
-  split-end e =
+  split_end : q ≡ 2 ^ 24 → Split s q k
+  split_end e =
       let x : suc (suc k) < 255 = omega arith in
       let v : 2 ^ 23 * 2 ^ suc k ≡ q * 2 ^ k = ap (λ (n : ℕ). 2 ^ 23 * n) (pow-succ' 2 k) ∙ sym (mul_assoc (2 ^ 23) 2 (2 ^ k)) ∙ ap (λ (n : ℕ). n * 2 ^ k) (sym e) in
-      (suc (suc k), 0, x, lit< tt, omega arith, subst (λ (n : ℕ). HasValue (of_fields binary32 s (suc (suc k)) 0) s n (2 ^ 149)) v (read-high binary32 s (suc k) 0 x))
+      (suc (suc k), 0, x, lit< tt, omega arith, subst (λ (n : ℕ). HasValue (of_fields binary32 s (suc (suc k)) 0) s n (2 ^ 149)) v (read_high binary32 s (suc k) 0 x))
 
 split : (s : Bool) (q k : ℕ) → Kept q k → k * 2 ^ 23 + q < 255 * 2 ^ 23 → Split s q k
-split s q k z r = go (eq-or-lt_of_le z.0) z.1 (le-or-lt (2 ^ 23) q)
+split s q k z r = go (eq-or-lt_of_le z.0) z.1 (le_or_lt (2 ^ 23) q)
   where
     go : (q ≡ 2 ^ 24) ⊎ (q < 2 ^ 24) → (k ≡ 0) ⊎ (2 ^ 23 ≤ q) → (2 ^ 23 ≤ q) ⊎ (q < 2 ^ 23) → Split s q k
-    go (inl e) z w = split-end s q k r e
-    go (inr l) (inr g) w = split-mid s q k r g l
-    go (inr l) (inl e) (inl g) = split-mid s q k r g l
-    go (inr l) (inl e) (inr g) = split-low s q k r g e
+    go (inl e) z w = split_end s q k r e
+    go (inr l) (inr g) w = split_mid s q k r g l
+    go (inr l) (inl e) (inl g) = split_mid s q k r g l
+    go (inr l) (inl e) (inr g) = split_low s q k r g e
 
 pub packed : (s : Bool) (q k : ℕ) → Kept q k → k * 2 ^ 23 + q < 255 * 2 ^ 23 → of_bits binary32 (cond s (2 ^ 31) 0 + (k * 2 ^ 23 + q)) ≡ units binary32 s q k
 packed s q k z r =
@@ -112,7 +112,7 @@ packed s q k z r =
     ∙ fields s w.0 w.1 (lt_of_lt_of_le w.2 (lit≤ tt)) w.3
     ∙ unique binary32 (of_fields binary32 s w.0 w.1) (units binary32 s q k) s (q * 2 ^ k)
     (subst (λ (v : Float). T (fits binary32 v)) (fields s w.0 w.1 (lt_of_lt_of_le w.2 (lit≤ tt)) w.3) (of_bits-fits binary32 _))
-    (units-fits s q k z.0)
+    (units_fits s q k z.0)
     w.5
     (units_val binary32 s q k (below q k z r))
 
@@ -124,23 +124,23 @@ past s q k z r = cond_no (ltb (q * 2 ^ k) (2 ^ 277)) (odd 25 s q k 149) (inf s) 
 
 -- the pattern of an infinity
 pub infinite : (s : Bool) → of_bits binary32 (cond s (2 ^ 31) 0 + 255 * 2 ^ 23) ≡ inf s
-infinite s = fields s 255 0 (lit< tt) (lit< tt) ∙ read-top binary32 s 255 0 refl
+infinite s = fields s 255 0 (lit< tt) (lit< tt) ∙ read_top binary32 s 255 0 refl
 
 -- ---- a NaN's pattern, without its sign, is above an infinity's
 
-pub no-nan : (f : Format) (n : ℕ) → n % top f ≤ ones f * hid f → T (not (nan_bits f n))
-no-nan f n h =
+pub no_nan : (f : Format) (n : ℕ) → n % top f ≤ ones f * hid f → T (not (nan_bits f n))
+no_nan f n h =
     subst (λ (b : Bool). T (not b)) (sym (nan_bits_above f n))
     (not_T (ltb (ones f * hid f) (n % top f)) (λ u. not-le_of_lt (ltb→lt (ones f * hid f) (n % top f) u) h))
 
-only-nan : (x : Float) → T (is_nan x) → nan ≡ x
+only_nan : (x : Float) → T (is_nan x) → nan ≡ x
 unfolding is_nan
-only-nan nan t = refl
-only-nan (inf s) t = absurd t
-only-nan (fin s m e) t = absurd t
+only_nan nan t = refl
+only_nan (inf s) t = absurd t
+only_nan (fin s m e) t = absurd t
 
-pub nan-above : (f : Format) (n : ℕ) → ones f * hid f < n % top f → nan ≡ of_bits f n
-nan-above f n h = only-nan (of_bits f n) (subst T (sym (nan_bits_above f n) ∙ nan_bits_is f n) (lt→ltb (ones f * hid f) (n % top f) h))
+pub nan_above : (f : Format) (n : ℕ) → ones f * hid f < n % top f → nan ≡ of_bits f n
+nan_above f n h = only_nan (of_bits f n) (subst T (sym (nan_bits_above f n) ∙ nan_bits_is f n) (lt→ltb (ones f * hid f) (n % top f) h))
 
 -- for the code that reads patterns
-pub ruleset patterns = (no-nan, nan-above)
+pub ruleset patterns = (no_nan, nan_above)

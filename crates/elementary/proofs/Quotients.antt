@@ -1,4 +1,4 @@
--- A quotient of two positive values is their exact quotient, rounded once (`div-at`), and a whole number up to 2 ^ 53 is itself in binary64 (`whole64-at`). Assumes nothing.
+-- A quotient of two positive values is their exact quotient, rounded once (`div_at`), and a whole number up to 2 ^ 53 is itself in binary64 (`whole64_at`). Assumes nothing.
 use Rattle.std.proofs.Common.{◌≡◌, ℕ, ◌*◌, ◌^◌, ◌<◌, ◌≤◌, Bool, true, false, cond, eqb, sym, ap, ◌∙◌, subst, true≢false, mul_assoc, mul_comm, mul-pos, mul_left_comm, arith, ne_eqb}
 use lib.Ieee.{Float, nan, inf, fin, Format, binary64, up, down, round, div, of_int}
 use lib.Ieee.Fits.{up_pos, down_pos}
@@ -8,9 +8,9 @@ use lib.Ieee.Scale.{round_same}
 use lib.Ieee.Positive.{first_pos}
 use Rattle.elementary.specs.Notation.{whole64}
 
-pub whole64-at : (n : ℕ) → n ≤ 2 ^ 53 → HasValue (whole64 n) false n 1
+pub whole64_at : (n : ℕ) → n ≤ 2 ^ 53 → HasValue (whole64 n) false n 1
 unfolding of_int
-whole64-at n h = round_whole binary64 false n h
+whole64_at n h = round_whole binary64 false n h
 
 cross : (m d n g a c b k : ℕ) → m * c ≡ a * d → n * k ≡ b * g → m * g * (b * c) ≡ a * k * (n * d)
 cross m d n g a c b k p q =
@@ -18,15 +18,15 @@ cross m d n g a c b k p q =
     let r : a * d * (n * k) ≡ a * k * (n * d) = simp (mul_assoc, mul_comm, mul_left_comm) in
     l ∙ ap (λ (z : ℕ). z * (b * g)) p ∙ ap (λ (z : ℕ). a * d * z) (sym q) ∙ r
 
-pub div-at : (f : Format) (x y : Float) (a c b k : ℕ) → 0 < c → 0 < b → 0 < k → HasValue x false a c → HasValue y false b k → div f x y ≡ round f false (a * k) (b * c)
+pub div_at : (f : Format) (x y : Float) (a c b k : ℕ) → 0 < c → 0 < b → 0 < k → HasValue x false a c → HasValue y false b k → div f x y ≡ round f false (a * k) (b * c)
 unfolding div
-div-at f nan y a c b k C B K v w = absurd v
-div-at f (inf s) y a c b k C B K v w = absurd v
-div-at f (fin s m e) nan a c b k C B K v w = absurd w
-div-at f (fin s m e) (inf t) a c b k C B K v w = absurd w
-div-at f (fin true m e) (fin t n d) a c b k C B K v w = absurd (true≢false v.0)
-div-at f (fin false m e) (fin true n d) a c b k C B K v w = absurd (true≢false w.0)
-div-at f (fin false m e) (fin false n d) a c b k C B K v w =
+div_at f nan y a c b k C B K v w = absurd v
+div_at f (inf s) y a c b k C B K v w = absurd v
+div_at f (fin s m e) nan a c b k C B K v w = absurd w
+div_at f (fin s m e) (inf t) a c b k C B K v w = absurd w
+div_at f (fin true m e) (fin t n d) a c b k C B K v w = absurd (true≢false v.0)
+div_at f (fin false m e) (fin true n d) a c b k C B K v w = absurd (true≢false w.0)
+div_at f (fin false m e) (fin false n d) a c b k C B K v w =
     let p : 0 < n = first_pos n (up d) (first_pos (n * up d) k (subst (λ (z : ℕ). 0 < z) (sym w.1) (mul-pos B (down_pos d)))) in
     ap (λ (t : Bool). cond t (cond (eqb m 0) nan (inf false)) (round f false (m * up e * down d) (n * up d * down e))) (ne_eqb n 0 (λ z. omega arith))
     ∙ round_same f false (m * up e * down d) (n * up d * down e) (a * k) (b * c) (mul-pos (mul-pos p (up_pos d)) (down_pos e)) (mul-pos B C)

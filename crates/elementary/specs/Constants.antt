@@ -7,5 +7,5 @@ abbrev pub pi : Float
 pi = lit 0x4049_0fdb
 
 -- `INV_4_PI` of pbrt.rs: 0.079_577_471_545_947_667_88
-abbrev pub inv4Pi : Float
-inv4Pi = lit 0x3da2_f983
+abbrev pub inv_4_pi : Float
+inv_4_pi = lit 0x3da2_f983

@@ -22,13 +22,13 @@ odds zero z h = h
 odds (suc n) z h = odds n z (one64 ⧄ whole64 (2 * n + 1) ⊞ z ⊠ h)
 
 -- s = (m - 1) / (m + 1); z = s * s; h = 1 / 31, then odd k = 29 down to 1; e * C + (2 * s) * h, rounded
-unfoldable pub lnSeries : Float → Float → Float
-lnSeries m e =
+unfoldable pub ln_series : Float → Float → Float
+ln_series m e =
     let s = (m ⊟ one64) ⧄ (m ⊞ one64) in
     let h = odds 15 (s ⊠ s) (one64 ⧄ c31) in
     narrow (e ⊠ ln2 ⊞ two ⊠ s ⊠ h)
 
--- a units of 2 ^ -149 are m * 2 ^ e: a has `size a` binary digits, so m = a / 2 ^ (size a - 1) and e = size a - 150, which is negative below 1. Both are exact (`ln-parts` of proofs/Inside).
+-- a units of 2 ^ -149 are m * 2 ^ e: a has `size a` binary digits, so m = a / 2 ^ (size a - 1) and e = size a - 150, which is negative below 1. Both are exact (`ln_parts` of proofs/Inside).
 abbrev pub significand : ℕ → Float
 significand a = round binary64 false a (2 ^ (size a - 1))
 
@@ -37,4 +37,4 @@ exponent a = neg (whole64 (150 - size a))
 
 -- from 2 ^ -126 up to 1, and a NaN elsewhere, where document 01 gives no value
 unfoldable pub ln : Float → Float
-ln x = cond (le (lit 0x0080_0000) x && lt x (lit 0x3f80_0000)) (lnSeries (significand (mag x)) (exponent (mag x))) nan
+ln x = cond (le (lit 0x0080_0000) x && lt x (lit 0x3f80_0000)) (ln_series (significand (mag x)) (exponent (mag x))) nan

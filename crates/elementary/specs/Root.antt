@@ -13,12 +13,12 @@ digits zero n g = g
 digits (suc d) n g = let h = g + 2 ^ d in digits d n (cond (nat_lt ((2 * h - 1) * (2 * h - 1)) (4 * n)) h g)
 
 -- the whole number nearest to the root of n, for a root of 24 digits. There is no tie, since 4 * n is even and (2 * g - 1) ^ 2 odd
-abbrev pub nearestRoot : ℕ → ℕ
-nearestRoot n = digits 24 n 0
+abbrev pub nearest_root : ℕ → ℕ
+nearest_root n = digits 24 n 0
 
 -- The root of a units of 2 ^ -149, where a has `size a` binary digits. With n = a * 2 ^ 149 / 2 ^ (2 * k) it is 2 ^ k times the root of n, in units. This k gives n 47 or 48 digits, and its root 24.
-unfoldable pub rootOf : ℕ → Float
-rootOf a = let k = 51 + size a / 2 in units binary32 false (nearestRoot (a * 2 ^ 149 / 2 ^ (2 * k))) k
+unfoldable pub root_of : ℕ → Float
+root_of a = let k = 51 + size a / 2 in units binary32 false (nearest_root (a * 2 ^ 149 / 2 ^ (2 * k))) k
 
 -- NaN or below zero gives NaN; ±0 and +infinity give themselves
 unfoldable pub sqrt : Float → Float
@@ -27,7 +27,7 @@ sqrt (inf true) = nan
 sqrt (inf false) = inf false
 sqrt (fin s zero e) = fin s zero e
 sqrt (fin true (suc m) e) = nan
-sqrt (fin false (suc m) e) = rootOf (mag (fin false (suc m) e))
+sqrt (fin false (suc m) e) = root_of (mag (fin false (suc m) e))
 
 -- r is the binary32 value nearest to the root of x. `HasValue x s a c` says that x is finite, has the sign s and is a / c in size: x is n * (2 ^ k / 2 ^ 149) ^ 2 and r is g * 2 ^ k / 2 ^ 149, exactly,
 -- so r stands to the root of x as g to the root of n. The root of n has 24 digits before the point, so r's neighbours are g - 1 and g + 1, and it lies strictly between g - 1/2 and g + 1/2.

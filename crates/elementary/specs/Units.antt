@@ -3,16 +3,16 @@ use Rattle.std.specs.Prelude.{◌≡◌, ℕ, zero, suc, ◌+◌, ◌*◌, ◌/�
 use Rattle.std.specs.Float.{nan, inf, fin}
 use Rattle.std.specs.Float.Ieee.{up, down}
 
--- the size of ±m * 2 ^ e, in units: of a binary32 value the division leaves no remainder (`mag-exact` of proofs/Magnitude)
+-- the size of ±m * 2 ^ e, in units: of a binary32 value the division leaves no remainder (`mag_exact` of proofs/Magnitude)
 unfoldable pub mag : Float → ℕ
 mag nan = 0
 mag (inf s) = 0
 mag (fin s m e) = m * up e * 2 ^ 149 / down e
 
 -- the size, in units, of a finite value by its bit pattern: the exponent's field and the 23 digits below it. A field of 0 has no leading digit.
-abbrev pub unitsOf : ℕ → ℕ → ℕ
-unitsOf zero digits = digits
-unitsOf (suc k) digits = (2 ^ 23 + digits) * 2 ^ k
+abbrev pub units_of : ℕ → ℕ → ℕ
+units_of zero digits = digits
+units_of (suc k) digits = (2 ^ 23 + digits) * 2 ^ k
 
 -- a units, written with a significand q of 24 digits: a is q * 2 ^ size / 2 ^ 24, and has `size` digits
 pub record Normalised (a q size : ℕ) : Type 0 where

@@ -27,7 +27,7 @@ fn ln_of(q: u32, j: u32) -> f32
     requires low { 2 ^ 23 ≤ q }
     requires high { q < 2 ^ 24 }
     requires exponent { j < 126 }
-    ensures { result ≡ Logarithm.lnSeries (significand (q * 2 ^ j)) (exponent (q * 2 ^ j)) }
+    ensures { result ≡ Logarithm.ln_series (significand (q * 2 ^ j)) (exponent (q * 2 ^ j)) }
 {
     let m = (q as f64) / 8388608.0;
     let e = -((126 - j) as f64);

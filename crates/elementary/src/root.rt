@@ -2,15 +2,15 @@
 // machine's instruction.
 ghost use Rattle.std.specs.Prelude.{◌≡◌, ℕ, ◌+◌, ◌^◌, ◌<◌, ◌≤◌, map};
 ghost use Rattle.elementary.specs.Root as Root;
-ghost use Rattle.elementary.specs.Root.{nearestRoot, rootOf, Root};
-ghost use Rattle.elementary.specs.Units.{unitsOf, Normalised};
+ghost use Rattle.elementary.specs.Root.{nearest_root, root_of, Root};
+ghost use Rattle.elementary.specs.Units.{units_of, Normalised};
 
 use super::constants::nan;
 
 // The whole number nearest to the root of n, a binary digit at a time.
 fn by_digits(n: u64) -> u64
     requires { n < 2 ^ 48 }
-    ensures { result ≡ nearestRoot n }
+    ensures { result ≡ nearest_root n }
 {
     let mut g = 0u64;
     let mut d = 24u64;
@@ -43,7 +43,7 @@ fn guess(n: u64) -> u64
 fn nearest_root(n: u64) -> u64
     requires some { 0 < n }
     requires few { n + 2 ^ 24 ≤ 2 ^ 48 }
-    ensures { result ≡ nearestRoot n }
+    ensures { result ≡ nearest_root n }
 {
     let g = guess(n);
     if g < 0x200_0000 {
@@ -71,7 +71,7 @@ fn normalise(field: u32, digits: u32) -> Normal
     requires finite { field < 255 }
     requires low { digits < 2 ^ 23 }
     requires some { 0 < field + digits }
-    ensures { Normalised (unitsOf field digits) result.q result.size }
+    ensures { Normalised (units_of field digits) result.q result.size }
 {
     if field == 0 {
         // a number of 24 digits leaves 8 zeros of a u32
@@ -93,7 +93,7 @@ fn root_of(q: u32, size: u32) -> f32
     requires low { 2 ^ 23 ≤ q }
     requires high { q < 2 ^ 24 }
     requires most { size ≤ 277 }
-    ensures { (a : ℕ) → Normalised a q size → result ≡ rootOf a }
+    ensures { (a : ℕ) → Normalised a q size → result ≡ root_of a }
 {
     let n = (q as u64) << (23 + size % 2);
     let r = nearest_root(n);

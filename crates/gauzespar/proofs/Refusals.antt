@@ -9,9 +9,9 @@ use lib.ListN.{length, set}
 use lib.Ieee.{Float, eq, neg}
 use Rattle.elementary.specs.Notation.{lit}
 use Rattle.answers.specs.Answer.{Answer, answered}
-use Rattle.interpolation.specs.Own.{sampleTold, sample2d}
-use Rattle.interpolation.specs.Weights.{catmullRomWeights}
-use Rattle.interpolation.specs.Sample.{drawn, drawFrom, sampleCatmullRom2d}
+use Rattle.interpolation.specs.Own.{sample_told, sample2d}
+use Rattle.interpolation.specs.Weights.{catmull_rom_weights}
+use Rattle.interpolation.specs.Sample.{drawn, draw_from, sample_catmull_rom_2d}
 use Rattle.interpolation.specs.declared.weights.Weights.{Weights}
 use Rattle.interpolation.specs.declared.weights.Weights.TheVariants.{At, Outside}
 use Rattle.interpolation.specs.declared.solve.Solved.{Solved}
@@ -23,9 +23,9 @@ use Rattle.scattering.specs.Spectrum.{channel}
 use Rattle.scattering.specs.declared.spectrum.RGBEnum.{RGBEnum}
 use Rattle.table.specs.Parameters.{Lists}
 use Rattle.table.specs.declared.parameters.Record.{Record}
-use Rattle.bssrdf.specs.Coefficients.{sigmaT, rho}
+use Rattle.bssrdf.specs.Coefficients.{sigma_t, rho}
 use Rattle.bssrdf.specs.Question.{posed}
-use Rattle.bssrdf.specs.Drawing.{drawnValue, divided, drawnAt, sampleQuestion, sampleSr}
+use Rattle.bssrdf.specs.Drawing.{drawn_value, divided, drawn_at, sample_question, sample_sr}
 use Rattle.bssrdf.specs.declared.coefficients.Coefficients.{Coefficients}
 use Rattle.gauzespar.specs.Outputs.{Tells, over, wholes}
 
@@ -47,50 +47,50 @@ record Each (f : Sample → Answer) : Type 0 where
   exhausted : Numbered (f (Refused 13))
 
 module _ (f : Sample → Answer) (each : Each f) (nodes2 : List Float) where
-  by-solved : (i : ℕ) (maximum : Float) (found : Solved) → Numbered (f (drawn nodes2 i maximum found))
+  by_solved : (i : ℕ) (maximum : Float) (found : Solved) → Numbered (f (drawn nodes2 i maximum found))
   unfolding drawn
-  by-solved i maximum (SolvedAt t v rounds) = each.at _ v _ rounds
-  by-solved i maximum Exhausted = each.exhausted
+  by_solved i maximum (SolvedAt t v rounds) = each.at _ v _ rounds
+  by_solved i maximum Exhausted = each.exhausted
 
-  by-weights : (values cdf : List Float) (w : Weights) (u : Float) (allowance : ℕ) → Numbered (f (drawFrom nodes2 values cdf w u allowance))
-  unfolding drawFrom
-  by-weights values cdf (At offset w) u allowance = by-solved _ _ _
-  by-weights values cdf Outside u allowance = each.outside
+  by_weights : (values cdf : List Float) (w : Weights) (u : Float) (allowance : ℕ) → Numbered (f (draw_from nodes2 values cdf w u allowance))
+  unfolding draw_from
+  by_weights values cdf (At offset w) u allowance = by_solved _ _ _
+  by_weights values cdf Outside u allowance = each.outside
 
-told : Each sampleTold
-unfolding sampleTold answered
+told : Each sample_told
+unfolding sample_told answered
 told = record { at = λ p v d n. refl; outside = refl; exhausted = refl }
 
-pub numbered-sample : (nodes1 nodes2 values cdf : List Float) (alpha u : Float) (allowance : ℕ) → Numbered (sample2d nodes1 nodes2 values cdf alpha u allowance)
-unfolding sample2d sampleCatmullRom2d
-numbered-sample nodes1 nodes2 values cdf alpha u allowance = numbered _ _ (by-weights sampleTold told nodes2 values cdf (catmullRomWeights nodes1 alpha) u allowance)
+pub numbered_sample : (nodes1 nodes2 values cdf : List Float) (alpha u : Float) (allowance : ℕ) → Numbered (sample2d nodes1 nodes2 values cdf alpha u allowance)
+unfolding sample2d sample_catmull_rom_2d
+numbered_sample nodes1 nodes2 values cdf alpha u allowance = numbered _ _ (by_weights sample_told told nodes2 values cdf (catmull_rom_weights nodes1 alpha) u allowance)
 
 divides : (sigma : Float) → Each (divided sigma)
 unfolding divided answered
 divides sigma = record { at = λ p v d n. refl; outside = refl; exhausted = refl }
 
-numbered-drawn : (t : Lists) (ch : RGBEnum) (c : Coefficients) (u : Float) (allowance : ℕ) → Numbered (drawnAt t ch c u allowance)
-unfolding drawnAt sampleCatmullRom2d answered
-numbered-drawn t ch c u allowance = go (eq sigma (lit 0))
+numbered_drawn : (t : Lists) (ch : RGBEnum) (c : Coefficients) (u : Float) (allowance : ℕ) → Numbered (drawn_at t ch c u allowance)
+unfolding drawn_at sample_catmull_rom_2d answered
+numbered_drawn t ch c u allowance = go (eq sigma (lit 0))
   where
     sigma : Float
-    sigma = channel (sigmaT c) ch
+    sigma = channel (sigma_t c) ch
 
     draw : Answer
-    draw = divided sigma (drawFrom t.radiusSamples t.profile t.profileCdf (catmullRomWeights t.rhoSamples (channel (rho c) ch)) u allowance)
+    draw = divided sigma (draw_from t.radius_samples t.profile t.profile_cdf (catmull_rom_weights t.rho_samples (channel (rho c) ch)) u allowance)
 
-    go : (b : Bool) → Numbered (cond b (drawnValue (neg one) 0) draw)
+    go : (b : Bool) → Numbered (cond b (drawn_value (neg one) 0) draw)
     go true = refl
-    go false = by-weights (divided sigma) (divides sigma) t.radiusSamples _ _ (catmullRomWeights t.rhoSamples (channel (rho c) ch)) u allowance
+    go false = by_weights (divided sigma) (divides sigma) t.radius_samples _ _ (catmull_rom_weights t.rho_samples (channel (rho c) ch)) u allowance
 
-pub numbered-sr : (r : Record) (t : Lists) (ch : RGBEnum) (c : Coefficients) (u : Float) (allowance : ℕ) → Numbered (sampleSr r t ch c u allowance)
-unfolding sampleSr sampleQuestion posed
-numbered-sr r t ch c u allowance = numbered _ _ (numbered-drawn t ch c u allowance)
+pub numbered_sr : (r : Record) (t : Lists) (ch : RGBEnum) (c : Coefficients) (u : Float) (allowance : ℕ) → Numbered (sample_sr r t ch c u allowance)
+unfolding sample_sr sample_question posed
+numbered_sr r t ch c u allowance = numbered _ _ (numbered_drawn t ch c u allowance)
 
 -- ---- the rounds, which are not signed, in a list of one
 
-pub wholes-one : (old : List ℕ) (n : ℕ) → length old ≡ 1 → wholes (set old 0 n) ≡ over (pos n ∷ []) (wholes old)
-wholes-one [] n h = absurd (omega arith)
-wholes-one (y ∷ ys) n h = refl
+pub wholes_one : (old : List ℕ) (n : ℕ) → length old ≡ 1 → wholes (set old 0 n) ≡ over (pos n ∷ []) (wholes old)
+wholes_one [] n h = absurd (omega arith)
+wholes_one (y ∷ ys) n h = refl
 
-pub ruleset of_draws = (numbered-sample, numbered-sr, wholes-one)
+pub ruleset of_draws = (numbered_sample, numbered_sr, wholes_one)

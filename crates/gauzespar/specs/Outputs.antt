@@ -1,7 +1,7 @@
 -- What a call of the facade returns, and what it leaves in its output lists, by the answer (`answers`) of the call that it makes.
 use Rattle.std.specs.Prelude.{◌≡◌, Bool, true, false, List, [], ◌∷◌, ◌++◌, map, ℕ, ℤ, pos, length, drop}
 use Rattle.answers.specs.Answer.{Answer, refusal, value, answered, written}
-use Rattle.answers.specs.Checks.{firstOf}
+use Rattle.answers.specs.Checks.{first_of}
 
 -- the number returned: that of a refusal, or 0, and 0 for a value alone
 abbrev pub Tells : ℕ → Answer → Type 0
@@ -21,4 +21,4 @@ wholes xs = map pos xs
 -- an output list of another length than its value's is refused as a list's length is, with 5, once the checks before 5 have passed
 unfoldable pub fitted : Bool → ℕ → Answer → Answer
 fitted true before a = a
-fitted false before a = refusal (firstOf (before ∷ 5 ∷ []))
+fitted false before a = refusal (first_of (before ∷ 5 ∷ []))

@@ -18,7 +18,7 @@ pub fn coefficients_of(
     sigma_s_g: f32,
     sigma_s_b: f32,
 ) -> Coefficients
-    ensures { result ≡ Calls.coefficientsOf sigma_a_r sigma_a_g sigma_a_b sigma_s_r sigma_s_g sigma_s_b }
+    ensures { result ≡ Calls.coefficients_of sigma_a_r sigma_a_g sigma_a_b sigma_s_r sigma_s_g sigma_s_b }
 {
     Coefficients {
         sigma_a: Spectrum {
@@ -34,10 +34,10 @@ pub fn coefficients_of(
     }
 }
 
-#[tactic(auto, unfolding(crate::specs::Calls::inChannel))]
+#[tactic(auto, unfolding(crate::specs::Calls::in_channel))]
 pub fn channel_of(channel: u32) -> RGBEnum
     requires { channel ≤ 2 }
-    ensures { (call : RGBEnum → Answer) → Calls.inChannel channel call ≡ call result }
+    ensures { (call : RGBEnum → Answer) → Calls.in_channel channel call ≡ call result }
 {
     if channel == 0 {
         RGBEnum::Red

@@ -2,7 +2,7 @@
 #![tactic(auto, using(std::proofs::lemmas::Grind::common_steps, crate::proofs::Refusals::of_draws), unfolding(crate::proofs::Opened::queries))]
 
 ghost use Rattle.std.specs.Prelude.{◌≡◌, length};
-ghost use Rattle.table.specs.Parameters.{recordOf, lists};
+ghost use Rattle.table.specs.Parameters.{record_of, lists};
 ghost use Rattle.gauzespar.specs.Outputs.{Tells, output, wholes};
 ghost use Rattle.gauzespar.specs.Calls as Calls;
 
@@ -34,8 +34,8 @@ pub extern "C" fn gauzespar_sr(
     radius: f32,
     radiance: &mut [f32],
 ) -> u32
-    ensures { let a = Calls.sr (recordOf n m g eta) (lists rho_samples.now radius_samples.now profile.now rho_eff.now profile_cdf.now marks.now)
-        (Calls.coefficientsOf sigma_a_r sigma_a_g sigma_a_b sigma_s_r sigma_s_g sigma_s_b) radius (length radiance.old) in
+    ensures { let a = Calls.sr (record_of n m g eta) (lists rho_samples.now radius_samples.now profile.now rho_eff.now profile_cdf.now marks.now)
+        (Calls.coefficients_of sigma_a_r sigma_a_g sigma_a_b sigma_s_r sigma_s_g sigma_s_b) radius (length radiance.old) in
         Tells result a × (radiance.new ≡ output result a.floats radiance.old) }
 {
     let r = Record { n, m, g, eta };
@@ -89,8 +89,8 @@ pub extern "C" fn gauzespar_pdf_sr(
     radius: f32,
     density: &mut [f32],
 ) -> u32
-    ensures { let a = Calls.pdfSr (recordOf n m g eta) (lists rho_samples.now radius_samples.now profile.now rho_eff.now profile_cdf.now marks.now) channel
-        (Calls.coefficientsOf sigma_a_r sigma_a_g sigma_a_b sigma_s_r sigma_s_g sigma_s_b) radius (length density.old) in
+    ensures { let a = Calls.pdf_sr (record_of n m g eta) (lists rho_samples.now radius_samples.now profile.now rho_eff.now profile_cdf.now marks.now) channel
+        (Calls.coefficients_of sigma_a_r sigma_a_g sigma_a_b sigma_s_r sigma_s_g sigma_s_b) radius (length density.old) in
         Tells result a × (density.new ≡ output result a.floats density.old) }
 {
     if channel > 2 {
@@ -150,8 +150,8 @@ pub extern "C" fn gauzespar_sample_sr(
     drawn: &mut [f32],
     rounds: &mut [u32],
 ) -> u32
-    ensures { let a = Calls.sampleSr (recordOf n m g eta) (lists rho_samples.now radius_samples.now profile.now rho_eff.now profile_cdf.now marks.now) channel
-        (Calls.coefficientsOf sigma_a_r sigma_a_g sigma_a_b sigma_s_r sigma_s_g sigma_s_b) u allowance (length drawn.old) (length rounds.old) in
+    ensures { let a = Calls.sample_sr (record_of n m g eta) (lists rho_samples.now radius_samples.now profile.now rho_eff.now profile_cdf.now marks.now) channel
+        (Calls.coefficients_of sigma_a_r sigma_a_g sigma_a_b sigma_s_r sigma_s_g sigma_s_b) u allowance (length drawn.old) (length rounds.old) in
         Tells result a × (drawn.new ≡ output result a.floats drawn.old) × (wholes rounds.new ≡ output result a.wholes (wholes rounds.old)) }
 {
     if channel > 2 {

@@ -3,7 +3,7 @@
 
 ghost use Rattle.std.specs.Prelude.{◌≡◌, [], ◌∷◌, length};
 ghost use Rattle.answers.specs.Answer.{written};
-ghost use Rattle.interpolation.specs.Integral.{cdfOf};
+ghost use Rattle.interpolation.specs.Integral.{cdf_of};
 ghost use Rattle.gauzespar.specs.Outputs.{Tells, output, wholes};
 ghost use Rattle.gauzespar.specs.Calls as Calls;
 
@@ -43,7 +43,7 @@ pub extern "C" fn gauzespar_weights(
     weights: &mut [f32],
 ) -> u32
     ensures { let a = Calls.weights nodes.now x (length inside.old) (length offset.old) (length weights.old) in
-        Tells result a × (inside.new ≡ output result (Calls.insideOf a.floats ∷ []) inside.old)
+        Tells result a × (inside.new ≡ output result (Calls.inside_of a.floats ∷ []) inside.old)
         × (offset.new ≡ output result a.wholes offset.old)
         × (weights.new ≡ output result a.floats weights.old) }
 {
@@ -82,7 +82,7 @@ pub extern "C" fn gauzespar_integrate(
     sum: &mut [f32],
 ) -> u32
     ensures { let a = Calls.integral nodes.now values.now cdf.old (length sum.old) in
-        Tells result a × (cdf.new ≡ written result (cdfOf nodes.now values.now) cdf.old)
+        Tells result a × (cdf.new ≡ written result (cdf_of nodes.now values.now) cdf.old)
         × (sum.new ≡ output result a.floats sum.old) }
 {
     if sum.len() != 1 {

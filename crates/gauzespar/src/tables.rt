@@ -3,7 +3,7 @@
 
 ghost use Rattle.std.specs.Prelude.{◌≡◌};
 ghost use Rattle.answers.specs.Answer.{answered};
-ghost use Rattle.table.specs.Parameters.{recordOf, lists, effect, done};
+ghost use Rattle.table.specs.Parameters.{record_of, lists, effect, done};
 ghost use Rattle.table.specs.Starting as Starting;
 ghost use Rattle.table.specs.Building as Building;
 
@@ -24,7 +24,7 @@ pub extern "C" fn gauzespar_start(
     marks: &mut [u8],
 ) -> u32
     ensures { effect (answered result done) (lists rho_samples.new radius_samples.new profile.new rho_eff.new profile_cdf.new marks.new)
-        ≡ Starting.start (recordOf n m g eta) (lists rho_samples.old radius_samples.old profile.old rho_eff.old profile_cdf.old marks.old) }
+        ≡ Starting.start (record_of n m g eta) (lists rho_samples.old radius_samples.old profile.old rho_eff.old profile_cdf.old marks.old) }
 {
     let r = Record { n, m, g, eta };
     match table::start(
@@ -57,7 +57,7 @@ pub extern "C" fn gauzespar_build(
     marks: &mut [u8],
 ) -> u32
     ensures { effect (answered result done) (lists rho_samples.now radius_samples.now profile.new rho_eff.new profile_cdf.new marks.new)
-        ≡ Building.build (recordOf n m g eta) row (lists rho_samples.now radius_samples.now profile.old rho_eff.old profile_cdf.old marks.old) }
+        ≡ Building.build (record_of n m g eta) row (lists rho_samples.now radius_samples.now profile.old rho_eff.old profile_cdf.old marks.old) }
 {
     let r = Record { n, m, g, eta };
     match table::build(

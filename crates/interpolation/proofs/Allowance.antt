@@ -1,5 +1,5 @@
 -- A draw that ends does not depend on the allowance, if that covers the rounds made: the rounds are the same ones, and the loop stops at the first that is the last.
--- So an answer under one allowance is the answer under every larger one (`solve-more`, `sample-more`). The rounds made are at least one, and at most the allowance (`rounds-made`). Assumes nothing.
+-- So an answer under one allowance is the answer under every larger one (`solve_more`, `sample_more`). The rounds made are at least one, and at most the allowance (`rounds_made`). Assumes nothing.
 use mathlib.Core.Path.{◌≡◌, refl, ap}
 use mathlib.Core.Bool.{Bool, true, false, cond, true≢false}
 use mathlib.Core.List.{List, [], ◌∷◌}
@@ -10,14 +10,14 @@ use lib.Arith.{le-zero}
 use lib.ListN.{length}
 use lib.Ieee.{Float}
 use Rattle.elementary.specs.Notation.{lit, ◌⊗◌}
-use Rattle.interpolation.specs.Solve.{roundOf, firstGuess, solveFrom, solve}
-use Rattle.interpolation.specs.Weights.{catmullRomWeights}
-use Rattle.interpolation.specs.Sample.{segmentAt, drawn, drawFrom, sampleCatmullRom2d}
-use Rattle.interpolation.specs.Blend.{interpolate, blendInterval}
-use Rattle.answers.specs.Checks.{firstOf}
-use Rattle.interpolation.specs.Checks.{maxAllowance, check6, check9, check10}
+use Rattle.interpolation.specs.Solve.{round_of, first_guess, solve_from, solve}
+use Rattle.interpolation.specs.Weights.{catmull_rom_weights}
+use Rattle.interpolation.specs.Sample.{segment_at, drawn, draw_from, sample_catmull_rom_2d}
+use Rattle.interpolation.specs.Blend.{interpolate, blend_interval}
+use Rattle.answers.specs.Checks.{first_of}
+use Rattle.interpolation.specs.Checks.{max_allowance, check6, check9, check10}
 use Rattle.answers.specs.Answer.{refusal}
-use Rattle.interpolation.specs.Own.{sampleTold, sizesNumber, sampleNumber, sample2d}
+use Rattle.interpolation.specs.Own.{sample_told, sizes_number, sample_number, sample2d}
 use Rattle.interpolation.specs.declared.solve.Segment.{Segment}
 use Rattle.interpolation.specs.declared.solve.Round.{Round}
 use Rattle.interpolation.specs.declared.solve.Solved.{Solved}
@@ -26,127 +26,127 @@ use Rattle.interpolation.specs.declared.weights.Weights.{Weights}
 use Rattle.interpolation.specs.declared.weights.Weights.TheVariants.{At as WeightsAt, Outside}
 use Rattle.interpolation.specs.declared.sample.Sample.{Sample}
 use Rattle.interpolation.specs.declared.sample.Sample.TheVariants.{Refused}
-use Rattle.answers.proofs.Refusals.{first-none, not-refused, answers}
-use Rattle.interpolation.proofs.Refusals.{allowance-in-range, allowance-passes}
+use Rattle.answers.proofs.Refusals.{first_none, not_refused, answers}
+use Rattle.interpolation.proofs.Refusals.{allowance_in_range, allowance_passes}
 
 -- what an end after `rounds` says of the rounds from t, a and b on, after `made`
 pub record Ended (s : Segment) (left made rounds : ℕ) (t a b x v : Float) : Type 0 where
   pub some : made < rounds
   pub enough : rounds ≤ made + left
-  pub same : (other : ℕ) → rounds ≤ made + other → solveFrom s other made t a b ≡ At x v rounds
+  pub same : (other : ℕ) → rounds ≤ made + other → solve_from s other made t a b ≡ At x v rounds
 
 -- one round more, by whether it is the last
 module _ (s : Segment) (left made rounds : ℕ) (t a b x v : Float) where
   abbrev r : Round
-  r = roundOf s t a b
+  r = round_of s t a b
 
   stopped : r.stop ≡ true → At r.t r.value (made + 1) ≡ At x v rounds → Ended s (suc left) made rounds t a b x v
-  unfolding solveFrom
+  unfolding solve_from
   stopped h e = let n : made + 1 ≡ rounds = cc e in record { some = omega arith; enough = omega arith; same = same }
     where
-      same : (other : ℕ) → rounds ≤ made + other → solveFrom s other made t a b ≡ At x v rounds
+      same : (other : ℕ) → rounds ≤ made + other → solve_from s other made t a b ≡ At x v rounds
       same zero l = let n : made + 1 ≡ rounds = cc e in absurd (omega arith)
       same (suc other) l = rw h e
 
-  went-on : r.stop ≡ false → Ended s left (made + 1) rounds r.next r.a r.b x v → Ended s (suc left) made rounds t a b x v
-  unfolding solveFrom
-  went-on h later =
+  went_on : r.stop ≡ false → Ended s left (made + 1) rounds r.next r.a r.b x v → Ended s (suc left) made rounds t a b x v
+  unfolding solve_from
+  went_on h later =
       let more = later.some in
       let most = later.enough in
       record { some = omega arith; enough = omega arith; same = same }
     where
-      same : (other : ℕ) → rounds ≤ made + other → solveFrom s other made t a b ≡ At x v rounds
+      same : (other : ℕ) → rounds ≤ made + other → solve_from s other made t a b ≡ At x v rounds
       same zero l = let more = later.some in absurd (omega arith)
       same (suc other) l = rw h (later.same other (omega arith))
 
-by-test : {E : Type 0} (stop : Bool) (last rest found : Solved) → (stop ≡ true → last ≡ found → E) → (stop ≡ false → rest ≡ found → E) → cond stop last rest ≡ found → E
-by-test true last rest found f g e = f refl e
-by-test false last rest found f g e = g refl e
+by_test : {E : Type 0} (stop : Bool) (last rest found : Solved) → (stop ≡ true → last ≡ found → E) → (stop ≡ false → rest ≡ found → E) → cond stop last rest ≡ found → E
+by_test true last rest found f g e = f refl e
+by_test false last rest found f g e = g refl e
 
-ended : (s : Segment) (left made rounds : ℕ) (t a b x v : Float) → solveFrom s left made t a b ≡ At x v rounds → Ended s left made rounds t a b x v
-unfolding solveFrom
+ended : (s : Segment) (left made rounds : ℕ) (t a b x v : Float) → solve_from s left made t a b ≡ At x v rounds → Ended s left made rounds t a b x v
+unfolding solve_from
 ended s zero made rounds t a b x v e = let clash : true ≡ false = cc e in absurd (true≢false clash)
 ended s (suc left) made rounds t a b x v e =
-    let r = roundOf s t a b in
-    by-test r.stop _ _ _ (stopped s left made rounds t a b x v) (λ h k. went-on s left made rounds t a b x v h (ended s left (made + 1) rounds r.next r.a r.b x v k)) e
+    let r = round_of s t a b in
+    by_test r.stop _ _ _ (stopped s left made rounds t a b x v) (λ h k. went_on s left made rounds t a b x v h (ended s left (made + 1) rounds r.next r.a r.b x v k)) e
 
 -- ---- the whole loop
 
-pub rounds-made : (s : Segment) (allowance rounds : ℕ) (x v : Float) → solve s allowance ≡ At x v rounds → (1 ≤ rounds) × (rounds ≤ allowance)
+pub rounds_made : (s : Segment) (allowance rounds : ℕ) (x v : Float) → solve s allowance ≡ At x v rounds → (1 ≤ rounds) × (rounds ≤ allowance)
 unfolding solve
-rounds-made s allowance rounds x v e =
-    let d = ended s allowance 0 rounds (firstGuess s) (lit 0) (lit 0x3f800000) x v e in
+rounds_made s allowance rounds x v e =
+    let d = ended s allowance 0 rounds (first_guess s) (lit 0) (lit 0x3f800000) x v e in
     (d.some, rw zero-add at d.enough)
 
 -- any allowance that covers the rounds made
-pub solve-covered : (s : Segment) (allowance other rounds : ℕ) (x v : Float) → solve s allowance ≡ At x v rounds → rounds ≤ other → solve s other ≡ At x v rounds
+pub solve_covered : (s : Segment) (allowance other rounds : ℕ) (x v : Float) → solve s allowance ≡ At x v rounds → rounds ≤ other → solve s other ≡ At x v rounds
 unfolding solve
-solve-covered s allowance other rounds x v e l =
-    (ended s allowance 0 rounds (firstGuess s) (lit 0) (lit 0x3f800000) x v e).same other (rw zero-add l)
+solve_covered s allowance other rounds x v e l =
+    (ended s allowance 0 rounds (first_guess s) (lit 0) (lit 0x3f800000) x v e).same other (rw zero-add l)
 
-pub solve-more : (s : Segment) (allowance other rounds : ℕ) (x v : Float) → solve s allowance ≡ At x v rounds → allowance ≤ other → solve s other ≡ At x v rounds
-solve-more s allowance other rounds x v e l = solve-covered s allowance other rounds x v e (le_trans (rounds-made s allowance rounds x v e).1 l)
+pub solve_more : (s : Segment) (allowance other rounds : ℕ) (x v : Float) → solve s allowance ≡ At x v rounds → allowance ≤ other → solve s other ≡ At x v rounds
+solve_more s allowance other rounds x v e l = solve_covered s allowance other rounds x v e (le_trans (rounds_made s allowance rounds x v e).1 l)
 
 -- ---- the draw
 
 -- of a segment's end
-drawn-more : (nodes2 : List Float) (i : ℕ) (maximum : Float) (s : Segment) (allowance other : ℕ) (found : Solved) → solve s allowance ≡ found → (drawn nodes2 i maximum found ≡ Refused 13 → ⊥) → allowance ≤ other
+drawn_more : (nodes2 : List Float) (i : ℕ) (maximum : Float) (s : Segment) (allowance other : ℕ) (found : Solved) → solve s allowance ≡ found → (drawn nodes2 i maximum found ≡ Refused 13 → ⊥) → allowance ≤ other
     → drawn nodes2 i maximum (solve s other) ≡ drawn nodes2 i maximum found
 unfolding drawn
-drawn-more nodes2 i maximum s allowance other (At t v rounds) e h l = rw (solve-more s allowance other rounds t v e l)
-drawn-more nodes2 i maximum s allowance other Exhausted e h l = absurd (h refl)
+drawn_more nodes2 i maximum s allowance other (At t v rounds) e h l = rw (solve_more s allowance other rounds t v e l)
+drawn_more nodes2 i maximum s allowance other Exhausted e h l = absurd (h refl)
 
 -- of blended rows
-draw-more : (nodes2 values cdf : List Float) (w : Weights) (u : Float) (allowance other : ℕ) → (drawFrom nodes2 values cdf w u allowance ≡ Refused 13 → ⊥) → allowance ≤ other
-    → drawFrom nodes2 values cdf w u other ≡ drawFrom nodes2 values cdf w u allowance
-unfolding drawFrom
-draw-more nodes2 values cdf (WeightsAt offset f) u allowance other h l =
+draw_more : (nodes2 values cdf : List Float) (w : Weights) (u : Float) (allowance other : ℕ) → (draw_from nodes2 values cdf w u allowance ≡ Refused 13 → ⊥) → allowance ≤ other
+    → draw_from nodes2 values cdf w u other ≡ draw_from nodes2 values cdf w u allowance
+unfolding draw_from
+draw_more nodes2 values cdf (WeightsAt offset f) u allowance other h l =
     let m = length nodes2 in
     let maximum = interpolate cdf m offset f (m - 1) in
     let target = u ⊗ maximum in
-    let i = blendInterval cdf m offset f target in
-    drawn-more nodes2 i maximum (segmentAt nodes2 values cdf offset f target i) allowance other (solve (segmentAt nodes2 values cdf offset f target i) allowance) refl h l
-draw-more nodes2 values cdf Outside u allowance other h l = refl
+    let i = blend_interval cdf m offset f target in
+    drawn_more nodes2 i maximum (segment_at nodes2 values cdf offset f target i) allowance other (solve (segment_at nodes2 values cdf offset f target i) allowance) refl h l
+draw_more nodes2 values cdf Outside u allowance other h l = refl
 
 -- what is not refused under one allowance is the same under every larger one
-pub sample-more : (nodes1 nodes2 values cdf : List Float) (alpha u : Float) (allowance other : ℕ)
-    → (sampleCatmullRom2d nodes1 nodes2 values cdf alpha u allowance ≡ Refused 13 → ⊥) → allowance ≤ other
-    → sampleCatmullRom2d nodes1 nodes2 values cdf alpha u other ≡ sampleCatmullRom2d nodes1 nodes2 values cdf alpha u allowance
-unfolding sampleCatmullRom2d
-sample-more nodes1 nodes2 values cdf alpha u allowance other h l = draw-more nodes2 values cdf (catmullRomWeights nodes1 alpha) u allowance other h l
+pub sample_more : (nodes1 nodes2 values cdf : List Float) (alpha u : Float) (allowance other : ℕ)
+    → (sample_catmull_rom_2d nodes1 nodes2 values cdf alpha u allowance ≡ Refused 13 → ⊥) → allowance ≤ other
+    → sample_catmull_rom_2d nodes1 nodes2 values cdf alpha u other ≡ sample_catmull_rom_2d nodes1 nodes2 values cdf alpha u allowance
+unfolding sample_catmull_rom_2d
+sample_more nodes1 nodes2 values cdf alpha u allowance other h l = draw_more nodes2 values cdf (catmull_rom_weights nodes1 alpha) u allowance other h l
 
 -- ---- the offered call
 
-all-passed : (p q r s t : ℕ) → firstOf (p ∷ q ∷ r ∷ s ∷ t ∷ []) ≡ 0 → (p ≡ 0) × (q ≡ 0) × (r ≡ 0) × (s ≡ 0) × (t ≡ 0)
-all-passed p q r s t h =
-    let a = first-none p _ h in
-    let b = first-none q _ a.1 in
-    let c = first-none r _ b.1 in
-    let d = first-none s _ c.1 in
-    (a.0, b.0, c.0, d.0, (first-none t [] d.1).0)
+all_passed : (p q r s t : ℕ) → first_of (p ∷ q ∷ r ∷ s ∷ t ∷ []) ≡ 0 → (p ≡ 0) × (q ≡ 0) × (r ≡ 0) × (s ≡ 0) × (t ≡ 0)
+all_passed p q r s t h =
+    let a = first_none p _ h in
+    let b = first_none q _ a.1 in
+    let c = first_none r _ b.1 in
+    let d = first_none s _ c.1 in
+    (a.0, b.0, c.0, d.0, (first_none t [] d.1).0)
 
 -- a larger allowance passes where the first did
-number-more : (nodes1 nodes2 values cdf : List Float) (u : Float) (allowance other : ℕ) → sampleNumber nodes1 nodes2 values cdf u allowance ≤ 0 → allowance ≤ other → other ≤ maxAllowance
-    → sampleNumber nodes1 nodes2 values cdf u other ≤ 0
-unfolding sampleNumber firstOf
-number-more nodes1 nodes2 values cdf u allowance other h l m =
-    let a = all-passed (sizesNumber (length nodes1) (length nodes2) (length values) (length cdf)) (check6 nodes1) (check6 nodes2) (check9 u) (check10 allowance) (le-zero h) in
-    rw (a.0, a.1, a.2, a.3, allowance-passes other (le_trans (allowance-in-range allowance a.4).0 l) m) (le_refl 0)
+number_more : (nodes1 nodes2 values cdf : List Float) (u : Float) (allowance other : ℕ) → sample_number nodes1 nodes2 values cdf u allowance ≤ 0 → allowance ≤ other → other ≤ max_allowance
+    → sample_number nodes1 nodes2 values cdf u other ≤ 0
+unfolding sample_number first_of
+number_more nodes1 nodes2 values cdf u allowance other h l m =
+    let a = all_passed (sizes_number (length nodes1) (length nodes2) (length values) (length cdf)) (check6 nodes1) (check6 nodes2) (check9 u) (check10 allowance) (le-zero h) in
+    rw (a.0, a.1, a.2, a.3, allowance_passes other (le_trans (allowance_in_range allowance a.4).0 l) m) (le_refl 0)
 
-told-13 : (s : Sample) → (sampleTold s).refused ≡ false → s ≡ Refused 13 → ⊥
-unfolding sampleTold
-told-13 s h e = let n : sampleTold s ≡ refusal 13 = ap sampleTold e in cc
+told_13 : (s : Sample) → (sample_told s).refused ≡ false → s ≡ Refused 13 → ⊥
+unfolding sample_told
+told_13 s h e = let n : sample_told s ≡ refusal 13 = ap sample_told e in cc
 
-pub offered-more : (nodes1 nodes2 values cdf : List Float) (alpha u : Float) (allowance other : ℕ) → (sample2d nodes1 nodes2 values cdf alpha u allowance).refused ≡ false → allowance ≤ other → other ≤ maxAllowance
+pub offered_more : (nodes1 nodes2 values cdf : List Float) (alpha u : Float) (allowance other : ℕ) → (sample2d nodes1 nodes2 values cdf alpha u allowance).refused ≡ false → allowance ≤ other → other ≤ max_allowance
     → sample2d nodes1 nodes2 values cdf alpha u other ≡ sample2d nodes1 nodes2 values cdf alpha u allowance
 unfolding sample2d
-offered-more nodes1 nodes2 values cdf alpha u allowance other h l m =
-    let number : ℕ → ℕ = sampleNumber nodes1 nodes2 values cdf u in
-    let sample : ℕ → Sample = sampleCatmullRom2d nodes1 nodes2 values cdf alpha u in
-    let n = not-refused (number allowance) (sampleTold (sample allowance)) h in
-    let k : (sampleTold (sample allowance)).refused ≡ false = rw (answers (number allowance) (sampleTold (sample allowance)) n) at h in
+offered_more nodes1 nodes2 values cdf alpha u allowance other h l m =
+    let number : ℕ → ℕ = sample_number nodes1 nodes2 values cdf u in
+    let sample : ℕ → Sample = sample_catmull_rom_2d nodes1 nodes2 values cdf alpha u in
+    let n = not_refused (number allowance) (sample_told (sample allowance)) h in
+    let k : (sample_told (sample allowance)).refused ≡ false = rw (answers (number allowance) (sample_told (sample allowance)) n) at h in
     rw (
-      answers (number allowance) (sampleTold (sample allowance)) n,
-      answers (number other) (sampleTold (sample other)) (number-more nodes1 nodes2 values cdf u allowance other n l m),
-      sample-more nodes1 nodes2 values cdf alpha u allowance other (told-13 (sample allowance) k) l,
+      answers (number allowance) (sample_told (sample allowance)) n,
+      answers (number other) (sample_told (sample other)) (number_more nodes1 nodes2 values cdf u allowance other n l m),
+      sample_more nodes1 nodes2 values cdf alpha u allowance other (told_13 (sample allowance) k) l,
     )

@@ -1,4 +1,4 @@
--- Laws of `bisect` and `findInterval`. Each turn makes len smaller, so turns beyond len change nothing (`enough`), and a turn of the code's loop keeps the answer (`turn-up`, `turn-down`).
+-- Laws of `bisect` and `find_interval`. Each turn makes len smaller, so turns beyond len change nothing (`enough`), and a turn of the code's loop keeps the answer (`turn_up`, `turn_down`).
 -- All through, the test holds just below `first` and fails at first + len: so where the bisection ends it holds just below, and fails there. Nothing is asked of the test in between. Assumes nothing.
 use mathlib.Core.Path.{◌≡◌, refl, sym, ◌∙◌}
 use mathlib.Core.Bool.{Bool, true, false, cond, true≢false}
@@ -9,7 +9,7 @@ use native.Mathlib.Nat.{eq-or-lt_of_le, min-le_right}
 use native.Mathlib.Omega.{arith}
 use lib.ListN.{length}
 use lib.Ieee.{Float}
-use Rattle.interpolation.specs.Interval.{bisect, findInterval, atMost, nodeInterval}
+use Rattle.interpolation.specs.Interval.{bisect, find_interval, at_most, node_interval}
 
 -- ---- turns
 
@@ -33,34 +33,34 @@ enough p (suc turns) (suc more) first (suc m) h k =
     )
 
 -- one turn of the code's loop, which may take len turns: where the test at the middle holds, and where it fails
-pub turn-up : (p : ℕ → Bool) (first len : ℕ) → 0 < len → p (first + len / 2) ≡ true
+pub turn_up : (p : ℕ → Bool) (first len : ℕ) → 0 < len → p (first + len / 2) ≡ true
     → bisect p (len - (len / 2 + 1)) (first + len / 2 + 1) (len - (len / 2 + 1)) ≡ bisect p len first len
 unfolding bisect
-turn-up p first zero h t = absurd (omega arith)
-turn-up p first (suc m) h t = rw t (sym (enough p (suc m - (suc m / 2 + 1)) m (first + suc m / 2 + 1) (suc m - (suc m / 2 + 1)) (omega arith) (omega arith)))
+turn_up p first zero h t = absurd (omega arith)
+turn_up p first (suc m) h t = rw t (sym (enough p (suc m - (suc m / 2 + 1)) m (first + suc m / 2 + 1) (suc m - (suc m / 2 + 1)) (omega arith) (omega arith)))
 
-pub turn-down : (p : ℕ → Bool) (first len : ℕ) → 0 < len → p (first + len / 2) ≡ false → bisect p (len / 2) first (len / 2) ≡ bisect p len first len
+pub turn_down : (p : ℕ → Bool) (first len : ℕ) → 0 < len → p (first + len / 2) ≡ false → bisect p (len / 2) first (len / 2) ≡ bisect p len first len
 unfolding bisect
-turn-down p first zero h t = absurd (omega arith)
-turn-down p first (suc m) h t = rw t (sym (enough p (suc m / 2) m first (suc m / 2) (omega arith) (omega arith)))
+turn_down p first zero h t = absurd (omega arith)
+turn_down p first (suc m) h t = rw t (sym (enough p (suc m / 2) m first (suc m / 2) (omega arith) (omega arith)))
 
 -- and where nothing is left
-pub turn-none : (p : ℕ → Bool) (turns first len : ℕ) → len ≤ 0 → bisect p turns first len ≡ first
-turn-none p turns first zero h = done p turns first
-turn-none p turns first (suc m) h = absurd (omega arith)
+pub turn_none : (p : ℕ → Bool) (turns first len : ℕ) → len ≤ 0 → bisect p turns first len ≡ first
+turn_none p turns first zero h = done p turns first
+turn_none p turns first (suc m) h = absurd (omega arith)
 
 -- what the prover takes for the loop
-pub ruleset turning = (turn-up, turn-down, turn-none)
+pub ruleset turning = (turn_up, turn_down, turn_none)
 
 -- ---- the answer is the left end of an interval
 
-pub interval-bound : (p : ℕ → Bool) (size : ℕ) → findInterval p size ≤ size - 2
-unfolding findInterval
-interval-bound p size = min-le_right _ _
+pub interval_bound : (p : ℕ → Bool) (size : ℕ) → find_interval p size ≤ size - 2
+unfolding find_interval
+interval_bound p size = min-le_right _ _
 
-pub node-bound : (nodes : List Float) (x : Float) → nodeInterval nodes x ≤ length nodes - 2
-unfolding nodeInterval
-node-bound nodes x = interval-bound (atMost nodes x) (length nodes)
+pub node_bound : (nodes : List Float) (x : Float) → node_interval nodes x ≤ length nodes - 2
+unfolding node_interval
+node_bound nodes x = interval_bound (at_most nodes x) (length nodes)
 
 -- ---- where the bisection ends
 
@@ -75,18 +75,18 @@ at p b i j e h = rw (sym e) h
 stop : (p : ℕ → Bool) (n first len : ℕ) → len ≤ 0 → first + len ≤ n → (0 < first → p (first - 1) ≡ true) → (first + len < n → p (first + len) ≡ false) → Ends p n first
 stop p n first len z l u d = record { bound = omega arith; below = u; above = λ (h : first < n). at p false (first + len) first (omega arith) (d (omega arith)) }
 
-bisect-from : (p : ℕ → Bool) (n turns first len : ℕ) → len ≤ turns → first + len ≤ n → (0 < first → p (first - 1) ≡ true) → (first + len < n → p (first + len) ≡ false)
+bisect_from : (p : ℕ → Bool) (n turns first len : ℕ) → len ≤ turns → first + len ≤ n → (0 < first → p (first - 1) ≡ true) → (first + len < n → p (first + len) ≡ false)
     → Ends p n (bisect p turns first len)
 unfolding bisect
-bisect-from p n zero first len f l u d = stop p n first len f l u d
-bisect-from p n (suc turns) first zero f l u d = stop p n first zero (omega arith) l u d
-bisect-from p n (suc turns) first (suc m) f l u d =
+bisect_from p n zero first len f l u d = stop p n first len f l u d
+bisect_from p n (suc turns) first zero f l u d = stop p n first zero (omega arith) l u d
+bisect_from p n (suc turns) first (suc m) f l u d =
     let half = suc m / 2 in
     go (p (first + half))
     (λ (h : p (first + half) ≡ true).
-    bisect-from p n turns (first + half + 1) (suc m - (half + 1)) (omega arith) (omega arith) (λ _. at p true (first + half) (first + half + 1 - 1) (omega arith) h)
+    bisect_from p n turns (first + half + 1) (suc m - (half + 1)) (omega arith) (omega arith) (λ _. at p true (first + half) (first + half + 1 - 1) (omega arith) h)
     (λ (g : first + half + 1 + (suc m - (half + 1)) < n). at p false (first + suc m) (first + half + 1 + (suc m - (half + 1))) (omega arith) (d (omega arith))))
-    (λ (h : p (first + half) ≡ false). bisect-from p n turns first half (omega arith) (omega arith) u (λ _. h))
+    (λ (h : p (first + half) ≡ false). bisect_from p n turns first half (omega arith) (omega arith) u (λ _. h))
     refl
   where
     go : (b : Bool) → (p (first + suc m / 2) ≡ true → Ends p n (bisect p turns (first + suc m / 2 + 1) (suc m - (suc m / 2 + 1)))) → (p (first + suc m / 2) ≡ false → Ends p n (bisect p turns first (suc m / 2)))
@@ -94,16 +94,16 @@ bisect-from p n (suc turns) first (suc m) f l u d =
     go true upper lower e = upper e
     go false upper lower e = lower e
 
-pub bisect-ends : (p : ℕ → Bool) (n : ℕ) → Ends p n (bisect p n 0 n)
-bisect-ends p n = bisect-from p n n 0 n (omega arith) (omega arith) (λ (l : 0 < 0). absurd (omega arith)) (λ (l : 0 + n < n). absurd (omega arith))
+pub bisect_ends : (p : ℕ → Bool) (n : ℕ) → Ends p n (bisect p n 0 n)
+bisect_ends p n = bisect_from p n n 0 n (omega arith) (omega arith) (λ (l : 0 < 0). absurd (omega arith)) (λ (l : 0 + n < n). absurd (omega arith))
 
 -- For a test that holds at 0: it holds at i and fails at i + 1, or i is the last interval and the test holds at i + 1 too.
 abbrev pub Found : (ℕ → Bool) → ℕ → ℕ → Type 0
 Found p n i = (i + 2 ≤ n) × (((p i ≡ true) × (p (i + 1) ≡ false)) ⊎ ((i + 2 ≡ n) × (p (i + 1) ≡ true)))
 
-pub interval-found : (p : ℕ → Bool) (n : ℕ) → 2 ≤ n → p 0 ≡ true → Found p n (findInterval p n)
-unfolding findInterval
-interval-found p n h t = go (bisect p n 0 n) (bisect-ends p n)
+pub interval_found : (p : ℕ → Bool) (n : ℕ) → 2 ≤ n → p 0 ≡ true → Found p n (find_interval p n)
+unfolding find_interval
+interval_found p n h t = go (bisect p n 0 n) (bisect_ends p n)
   where
     go : (r : ℕ) → Ends p n r → Found p n (min (r - 1) (n - 2))
     go zero e = absurd (true≢false (sym t ∙ e.above (omega arith)))
@@ -116,4 +116,4 @@ interval-found p n h t = go (bisect p n 0 n) (bisect-ends p n)
     ]
 
 -- what the check tries at the goals of `weights`
-pub ruleset bounding = (node-bound)
+pub ruleset bounding = (node_bound)

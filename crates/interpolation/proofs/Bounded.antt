@@ -14,20 +14,20 @@ use lib.Ieee.{Float, nan, neg, binary32, fits}
 use Rattle.elementary.specs.Notation.{◌⊕◌, ◌⊖◌, ◌⊗◌, ◌⊘◌, lit}
 use Rattle.units.specs.Units.{Number, one, plus}
 use Rattle.units.proofs.Rounded.{Value}
-use Rattle.units.proofs.Held.{Held, held-zero, held-one, held-2, held-3, held-4, plus-held}
-use Rattle.units.proofs.Bounds.{In, in-wider, neg-opposite, neg-in, add-in, sub-in, mul-in, div-in}
-use Rattle.units.proofs.Order.{at-most-le}
-use Rattle.units.proofs.Literals.{value-in, zero-in, zero-value, one-value, two-value, three-value, four-value}
-use Rattle.units.proofs.Distance.{distance, Gap, no-overflow, gap, gap-in, gap-grows, gap-pos, ratio}
-use Rattle.interpolation.specs.Nodes.{nodesOk}
-use Rattle.interpolation.specs.Interval.{nodeInterval}
-use Rattle.interpolation.specs.Weights.{firstPart, lastPart, fourAt, within, catmullRomWeights}
+use Rattle.units.proofs.Held.{Held, held_zero, held_one, held_2, held_3, held_4, plus_held}
+use Rattle.units.proofs.Bounds.{In, in_wider, neg_opposite, neg_in, add_in, sub_in, mul_in, div_in}
+use Rattle.units.proofs.Order.{at_most_le}
+use Rattle.units.proofs.Literals.{value_in, zero_in, zero_value, one_value, two_value, three_value, four_value}
+use Rattle.units.proofs.Distance.{distance, Gap, no_overflow, gap, gap_in, gap_grows, gap_pos, ratio}
+use Rattle.interpolation.specs.Nodes.{nodes_ok}
+use Rattle.interpolation.specs.Interval.{node_interval}
+use Rattle.interpolation.specs.Weights.{first_part, last_part, four_at, within, catmull_rom_weights}
 use Rattle.interpolation.specs.Laws.{Holds, Between, Bounded}
 use Rattle.interpolation.specs.declared.weights.Four.{Four}
 use Rattle.interpolation.specs.declared.weights.Weights.TheVariants.{At}
 use Rattle.interpolation.proofs.Reach.{answer}
-use Rattle.interpolation.proofs.Accepted.{Accepted, accepted, Holding, T-finite, rising, node-gap, value-number, interval-holds}
-use Rattle.interpolation.proofs.Hermite.{before, after, fall-in, rise-in, before-in, after-in}
+use Rattle.interpolation.proofs.Accepted.{Accepted, accepted, Holding, T_finite, rising, node_gap, value_number, interval_holds}
+use Rattle.interpolation.proofs.Hermite.{before, after, fall_in, rise_in, before_in, after_in}
 
 -- ---- scaled parts. A bound is 0 or 1, chosen by a Bool
 
@@ -37,15 +37,15 @@ Part l h p = In p (cond l one 0) (cond h one 0)
 -- p times a width b over one that is no smaller
 scaled : (l h : Bool) {p b c : Float} → Part l h p → In b 0 (plus b) → In c 0 (plus c) → 0 < plus c → plus b ≤ plus c → Part l h (p ⊗ b ⊘ c)
 scaled l h {b = b} {c = c} P B C z g =
-    div-in (mul-in P B (held l) (held h) (up l) (up h)) C z (one-or-zero l) (one-or-zero h) (down l) (down h)
+    div_in (mul_in P B (held l) (held h) (up l) (up h)) C z (one_or_zero l) (one_or_zero h) (down l) (down h)
   where
-    one-or-zero : (k : Bool) → Held (cond k one 0)
-    one-or-zero true = held-one
-    one-or-zero false = held-zero
+    one_or_zero : (k : Bool) → Held (cond k one 0)
+    one_or_zero true = held_one
+    one_or_zero false = held_zero
 
     held : (k : Bool) → Held (cond k (plus b) 0)
-    held true = plus-held b B.number
-    held false = held-zero
+    held true = plus_held b B.number
+    held false = held_zero
 
     up : (k : Bool) → cond k one 0 * plus b ≤ cond k (plus b) 0 * one
     up true = le_of_eq (mul_comm one (plus b))
@@ -63,10 +63,10 @@ module _ {nodes : List Float} (A : Accepted nodes) (i : ℕ) (inside : i + 2 ≤
   wide = node (i + 1) ⊖ node i
 
   pub width : Gap (get_or nodes i nan) (get_or nodes (i + 1) nan)
-  width = node-gap A i (i + 1) (omega arith) (omega arith)
+  width = node_gap A i (i + 1) (omega arith) (omega arith)
 
-  pub width-pos : 0 < plus (get_or nodes (i + 1) nan ⊖ get_or nodes i nan)
-  width-pos = gap-pos width (A.step i (omega arith))
+  pub width_pos : 0 < plus (get_or nodes (i + 1) nan ⊖ get_or nodes i nan)
+  width_pos = gap_pos width (A.step i (omega arith))
 
   -- a part times the width over a wider gap, which begins before the interval or ends after it
   over : (a b : Bool) {p : Float} (j l : ℕ) → Part a b p → j ≤ i → i + 1 ≤ l → l < length nodes → Part a b (p ⊗ wide ⊘ (node l ⊖ node j))
@@ -74,20 +74,20 @@ module _ {nodes : List Float} (A : Accepted nodes) (i : ℕ) (inside : i + 2 ≤
       let s = A.step i (omega arith) in
       let lo = rising A j i h (omega arith) in
       let hi = rising A (i + 1) l k m in
-      let g = node-gap A j l (omega arith) m in
-      scaled a b P (gap-in width) (gap-in g) (gap-pos g (omega arith)) (gap-grows width g (omega arith))
+      let g = node_gap A j l (omega arith) m in
+      scaled a b P (gap_in width) (gap_in g) (gap_pos g (omega arith)) (gap_grows width g (omega arith))
 
-  pub first-part : (a b : Bool) (t : Float) → Part a b (before t) → Part a b (firstPart nodes i t)
-  unfolding firstPart
-  first-part a b t P = go (ltb 0 i)
+  pub first_part_lem : (a b : Bool) (t : Float) → Part a b (before t) → Part a b (first_part nodes i t)
+  unfolding first_part
+  first_part_lem a b t P = go (ltb 0 i)
     where
       go : (c : Bool) → Part a b (cond c (before t ⊗ wide ⊘ (node (i + 1) ⊖ node (i - 1))) (before t))
       go true = over a b (i - 1) (i + 1) P (omega arith) (omega arith) (omega arith)
       go false = P
 
-  pub last-part : (a b : Bool) (t : Float) → Part a b (after t) → Part a b (lastPart nodes i t)
-  unfolding lastPart
-  last-part a b t P = go (ltb (i + 2) (length nodes)) refl
+  pub last_part_lem : (a b : Bool) (t : Float) → Part a b (after t) → Part a b (last_part nodes i t)
+  unfolding last_part
+  last_part_lem a b t P = go (ltb (i + 2) (length nodes)) refl
     where
       go : (c : Bool) → ltb (i + 2) (length nodes) ≡ c → Part a b (cond c (after t ⊗ wide ⊘ (node (i + 2) ⊖ node i)) (after t))
       go true e = over a b i (i + 2) P (omega arith) (omega arith) (ltb-true (i + 2) (length nodes) e)
@@ -102,34 +102,34 @@ pub record FourIn (f : Four) : Type 0 where
   pub in3 : In f.w3 one 0
 
 module _ {w r p q : Float} (W : In w (2 * one) one) (R : In r 0 (3 * one)) (P : In p one one) (Q : In q one 0) where
-  in-0 : (b : Bool) → In (cond b (neg p) (lit 0)) one one
-  in-0 true = neg-in P
-  in-0 false = in-wider zero-in (omega arith) (omega arith)
+  in_0 : (b : Bool) → In (cond b (neg p) (lit 0)) one one
+  in_0 true = neg_in P
+  in_0 false = in_wider zero_in (omega arith) (omega arith)
 
-  in-1 : (b : Bool) → In (cond b w (w ⊖ p) ⊖ q) (3 * one) (3 * one)
-  in-1 b =
+  in_1 : (b : Bool) → In (cond b w (w ⊖ p) ⊖ q) (3 * one) (3 * one)
+  in_1 b =
       let i = go b in
-      sub-in i Q held-3 held-3 (omega arith) (omega arith)
+      sub_in i Q held_3 held_3 (omega arith) (omega arith)
     where
       go : (b : Bool) → In (cond b w (w ⊖ p)) (3 * one) (2 * one)
-      go true = in-wider W (omega arith) (omega arith)
-      go false = sub-in W P held-3 held-2 (omega arith) (omega arith)
+      go true = in_wider W (omega arith) (omega arith)
+      go false = sub_in W P held_3 held_2 (omega arith) (omega arith)
 
   mid : In (r ⊕ p) one (4 * one)
-  mid = add-in R P held-one held-4 (omega arith) (omega arith)
+  mid = add_in R P held_one held_4 (omega arith) (omega arith)
 
-  in-2 : (c : Bool) → In (cond c (r ⊕ p) (r ⊕ p ⊕ q)) (2 * one) (4 * one)
-  in-2 true = in-wider mid (omega arith) (le_refl (4 * one))
-  in-2 false =
+  in_2 : (c : Bool) → In (cond c (r ⊕ p) (r ⊕ p ⊕ q)) (2 * one) (4 * one)
+  in_2 true = in_wider mid (omega arith) (le_refl (4 * one))
+  in_2 false =
       let i = mid in
-      add-in i Q held-2 held-4 (omega arith) (omega arith)
+      add_in i Q held_2 held_4 (omega arith) (omega arith)
 
-  in-3 : (c : Bool) → In (cond c q (lit 0)) one 0
-  in-3 true = Q
-  in-3 false = in-wider zero-in (omega arith) (le_refl 0)
+  in_3 : (c : Bool) → In (cond c q (lit 0)) one 0
+  in_3 true = Q
+  in_3 false = in_wider zero_in (omega arith) (le_refl 0)
 
   four : (b c : Bool) → FourIn (record { w0 = cond b (neg p) (lit 0); w1 = cond b w (w ⊖ p) ⊖ q; w2 = cond c (r ⊕ p) (r ⊕ p ⊕ q); w3 = cond c q (lit 0) })
-  four b c = record { in0 = in-0 b; in1 = in-1 b; in2 = in-2 c; in3 = in-3 c }
+  four b c = record { in0 = in_0 b; in1 = in_1 b; in2 = in_2 c; in3 = in_3 c }
 
 -- ---- in any interval i that holds x
 
@@ -144,44 +144,44 @@ module _ {nodes : List Float} (A : Accepted nodes) {x : Float} (X : Number x) {i
   offset =
       let a = A.number i (omega arith) in
       let b = A.number (i + 1) (omega arith) in
-      gap (distance start end) a X I.low (omega arith) (no-overflow a b (width A i I.in-list).is-finite)
+      gap (distance start end) a X I.low (omega arith) (no_overflow a b (width A i I.in_list).is_finite)
 
-  t-in : In ((x ⊖ start) ⊘ (end ⊖ start)) 0 one
-  t-in =
-      let w = width A i I.in-list in
-      ratio (gap-in offset) (gap-in w).number (width-pos A i I.in-list) (gap-grows offset w (omega arith))
+  t_in : In ((x ⊖ start) ⊘ (end ⊖ start)) 0 one
+  t_in =
+      let w = width A i I.in_list in
+      ratio (gap_in offset) (gap_in w).number (width_pos A i I.in_list) (gap_grows offset w (omega arith))
 
-  interval-in : FourIn (fourAt nodes x i)
-  unfolding fourAt
-  interval-in =
+  interval_in : FourIn (four_at nodes x i)
+  unfolding four_at
+  interval_in =
       let t = (x ⊖ start) ⊘ (end ⊖ start) in
-      four (fall-in t-in) (rise-in t-in) (first-part A i I.in-list true true t (before-in t-in)) (last-part A i I.in-list true false t (after-in t-in)) (ltb 0 i) (ltb (i + 2) (length nodes))
+      four (fall_in t_in) (rise_in t_in) (first_part_lem A i I.in_list true true t (before_in t_in)) (last_part_lem A i I.in_list true false t (after_in t_in)) (ltb 0 i) (ltb (i + 2) (length nodes))
 
 -- ---- in the interval that the search finds
 
 -- bounds in units, as comparisons
-from-to : {w : Float} {l h : ℕ} (a b : ℕ) → In w l h → Value (lit a) l 0 → Value (lit b) h 0 → Between (neg (lit a)) (lit b) w
-from-to {w} {l} {h} a b W A B =
-    let o = neg-opposite (lit a) in
+from_to : {w : Float} {l h : ℕ} (a b : ℕ) → In w l h → Value (lit a) l 0 → Value (lit b) h 0 → Between (neg (lit a)) (lit b) w
+from_to {w} {l} {h} a b W A B =
+    let o = neg_opposite (lit a) in
     record {
-      is-finite = T-finite w W.number.is-finite;
-      from-low = at-most-le (neg-in (value-in a l 0 A)).number W.number (omega arith);
-      to-high = at-most-le W.number (value-in b h 0 B).number (omega arith);
+      is_finite = T_finite w W.number.is_finite;
+      from_low = at_most_le (neg_in (value_in a l 0 A)).number W.number (omega arith);
+      to_high = at_most_le W.number (value_in b h 0 B).number (omega arith);
     }
 
-module _ (nodes : List Float) (H : Holds nodes) (two : 2 ≤ length nodes) (ok : nodesOk nodes ≡ true) (x : Float) (fx : T (fits binary32 x)) where
+module _ (nodes : List Float) (H : Holds nodes) (two : 2 ≤ length nodes) (ok : nodes_ok nodes ≡ true) (x : Float) (fx : T (fits binary32 x)) where
   -- in units
-  pub weights-in : within nodes x ≡ true → FourIn (fourAt nodes x (nodeInterval nodes x))
-  weights-in inside = let A = accepted nodes H two ok in interval-in A (value-number A x fx inside) (interval-holds A x fx inside)
+  pub weights_in : within nodes x ≡ true → FourIn (four_at nodes x (node_interval nodes x))
+  weights_in inside = let A = accepted nodes H two ok in interval_in A (value_number A x fx inside) (interval_holds A x fx inside)
 
-  pub weights-bounded : (o : ℤ) (f : Four) → catmullRomWeights nodes x ≡ At o f → Bounded f
-  weights-bounded o f e =
+  pub weights_bounded : (o : ℤ) (f : Four) → catmull_rom_weights nodes x ≡ At o f → Bounded f
+  weights_bounded o f e =
       let a = answer nodes x o f e in
-      let w = weights-in a.is-within in
+      let w = weights_in a.is_within in
       subst Bounded (sym a.four)
       (record {
-        w0 = from-to 0x3f800000 0x3f800000 w.in0 one-value one-value;
-        w1 = from-to 0x40400000 0x40400000 w.in1 three-value three-value;
-        w2 = from-to 0x40000000 0x40800000 w.in2 two-value four-value;
-        w3 = from-to 0x3f800000 0 w.in3 one-value zero-value;
+        w0 = from_to 0x3f800000 0x3f800000 w.in0 one_value one_value;
+        w1 = from_to 0x40400000 0x40400000 w.in1 three_value three_value;
+        w2 = from_to 0x40000000 0x40800000 w.in2 two_value four_value;
+        w3 = from_to 0x3f800000 0 w.in3 one_value zero_value;
       })

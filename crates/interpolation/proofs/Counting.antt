@@ -1,5 +1,5 @@
--- The search by a count. Where a test holds up to a place and fails from there on, the bisection ends at that place, and so many numbers pass: so `findInterval` is the count over all places but the last,
--- less 1 (`interval-counted`). On an accepted node list "at most x" is such a test for every x: a node below one that is at most x is at most x, and a NaN has none (`at-most-falls`). Assumes nothing.
+-- The search by a count. Where a test holds up to a place and fails from there on, the bisection ends at that place, and so many numbers pass: so `find_interval` is the count over all places but the last,
+-- less 1 (`interval_counted`). On an accepted node list "at most x" is such a test for every x: a node below one that is at most x is at most x, and a NaN has none (`at_most_falls`). Assumes nothing.
 use mathlib.Core.Path.{◌≡◌, refl, sym, ◌∙◌}
 use mathlib.Core.Bool.{Bool, true, false, cond, false≢true, ◌&&◌}
 use mathlib.Core.Logic.{inl, inr}
@@ -11,13 +11,13 @@ use native.Mathlib.Omega.{arith}
 use lib.Dec.{T, eqb}
 use lib.ListN.{length}
 use lib.Ieee.{Float, nan, inf, fin, binary32, fits, le}
-use Rattle.elementary.proofs.Patterns.{le-or-lt}
+use Rattle.elementary.proofs.Patterns.{le_or_lt}
 use Rattle.units.specs.Units.{Number}
-use Rattle.units.proofs.Order.{AtMost, le-true, at-most-le}
-use Rattle.interpolation.specs.Interval.{bisect, findInterval, atMost, nodeInterval}
-use Rattle.interpolation.specs.Nodes.{allBelow, rises, increasing, nodesOk}
+use Rattle.units.proofs.Order.{AtMost, le_true, at_most_le}
+use Rattle.interpolation.specs.Interval.{bisect, find_interval, at_most, node_interval}
+use Rattle.interpolation.specs.Nodes.{all_below, rises, increasing, nodes_ok}
 use Rattle.interpolation.specs.Laws.{Holds}
-use Rattle.interpolation.proofs.Bisection.{Ends, bisect-ends}
+use Rattle.interpolation.proofs.Bisection.{Ends, bisect_ends}
 use Rattle.interpolation.proofs.Accepted.{Accepted, accepted}
 
 -- ---- over any test
@@ -27,23 +27,23 @@ unfoldable pub count : (ℕ → Bool) → ℕ → ℕ
 count p zero = 0
 count p (suc n) = count p n + cond (p n) 1 0
 
-pub count-more : (p : ℕ → Bool) (n : ℕ) → count p (n + 1) ≡ count p n + cond (p n) 1 0
+pub count_more : (p : ℕ → Bool) (n : ℕ) → count p (n + 1) ≡ count p n + cond (p n) 1 0
 unfolding count
-count-more p n = rw add-one
+count_more p n = rw add-one
 
 -- all pass exactly if so many do
-count-le : (p : ℕ → Bool) (n : ℕ) → count p n ≤ n
+count_le : (p : ℕ → Bool) (n : ℕ) → count p n ≤ n
 unfolding count
-count-le p zero = omega arith
-count-le p (suc n) = let below = count-le p n in grind arith
+count_le p zero = omega arith
+count_le p (suc n) = let below = count_le p n in grind arith
 
-one-more : (c n : ℕ) (b below : Bool) → c ≤ n → eqb c n ≡ below → eqb (c + cond b 1 0) (suc n) ≡ (below && b)
-one-more c n b below l e = grind arith
+one_more : (c n : ℕ) (b below : Bool) → c ≤ n → eqb c n ≡ below → eqb (c + cond b 1 0) (suc n) ≡ (below && b)
+one_more c n b below l e = grind arith
 
-all-counted : (p : ℕ → Bool) (n : ℕ) → eqb (count p n) n ≡ allBelow n p
-unfolding count allBelow
-all-counted p zero = refl
-all-counted p (suc n) = one-more (count p n) n (p n) (allBelow n p) (count-le p n) (all-counted p n)
+all_counted : (p : ℕ → Bool) (n : ℕ) → eqb (count p n) n ≡ all_below n p
+unfolding count all_below
+all_counted p zero = refl
+all_counted p (suc n) = one_more (count p n) n (p n) (all_below n p) (count_le p n) (all_counted p n)
 
 -- once the test fails it fails on
 abbrev pub Falls : (ℕ → Bool) → ℕ → Type 0
@@ -76,48 +76,48 @@ module _ (p : ℕ → Bool) (n : ℕ) (falls : Falls p n) where
   counted : (r : ℕ) → Ends p n r → (m : ℕ) → m ≤ n → count p m ≡ min r m
   unfolding count
   counted r e zero h = omega arith
-  counted r e (suc m) h = elim (le-or-lt r m) [
+  counted r e (suc m) h = elim (le_or_lt r m) [
     | inl l ↦ rw (counted r e m (omega arith), fails r e m l (omega arith)) (omega arith)
     | inr g ↦ rw (counted r e m (omega arith), passes r e m g) (omega arith)
   ]
 
-  pub interval-counted : findInterval p n ≡ count p (n - 1) - 1
-  unfolding findInterval
-  interval-counted = let c = counted (bisect p n 0 n) (bisect-ends p n) (n - 1) (omega arith) in omega arith
+  pub interval_counted : find_interval p n ≡ count p (n - 1) - 1
+  unfolding find_interval
+  interval_counted = let c = counted (bisect p n 0 n) (bisect_ends p n) (n - 1) (omega arith) in omega arith
 
 -- ---- the nodes at most x
 
-le-below : (a b x : Float) → Number a → Number b → T (fits binary32 x) → AtMost a b → le b x ≡ true → le a x ≡ true
+le_below : (a b x : Float) → Number a → Number b → T (fits binary32 x) → AtMost a b → le b x ≡ true → le a x ≡ true
 unfolding le
-le-below nan b x A B X o h = absurd A.is-finite
-le-below (inf s) b x A B X o h = absurd A.is-finite
-le-below (fin s m e) nan x A B X o h = absurd B.is-finite
-le-below (fin s m e) (inf t) x A B X o h = absurd B.is-finite
-le-below (fin s m e) (fin t n d) nan A B X o h = absurd (false≢true h)
-le-below (fin s m e) (fin t n d) (inf true) A B X o h = absurd (false≢true h)
-le-below (fin s m e) (fin t n d) (inf false) A B X o h = refl
-le-below (fin s m e) (fin t n d) (fin u p c) A B X o h =
-    let number : Number (fin u p c) = record { is-finite = tt; holds = X } in
-    let k = le-true B number h in
-    at-most-le A number (omega arith)
+le_below nan b x A B X o h = absurd A.is_finite
+le_below (inf s) b x A B X o h = absurd A.is_finite
+le_below (fin s m e) nan x A B X o h = absurd B.is_finite
+le_below (fin s m e) (inf t) x A B X o h = absurd B.is_finite
+le_below (fin s m e) (fin t n d) nan A B X o h = absurd (false≢true h)
+le_below (fin s m e) (fin t n d) (inf true) A B X o h = absurd (false≢true h)
+le_below (fin s m e) (fin t n d) (inf false) A B X o h = refl
+le_below (fin s m e) (fin t n d) (fin u p c) A B X o h =
+    let number : Number (fin u p c) = record { is_finite = tt; holds = X } in
+    let k = le_true B number h in
+    at_most_le A number (omega arith)
 
-at-most-falls : (nodes : List Float) → Accepted nodes → (x : Float) → T (fits binary32 x) → Falls (atMost nodes x) (length nodes)
-unfolding atMost
-at-most-falls nodes A x fx k l h =
+at_most_falls : (nodes : List Float) → Accepted nodes → (x : Float) → T (fits binary32 x) → Falls (at_most nodes x) (length nodes)
+unfolding at_most
+at_most_falls nodes A x fx k l h =
     let step = A.step k l in
-    le-below _ _ x (A.number k (omega arith)) (A.number (k + 1) l) fx (omega arith) h
+    le_below _ _ x (A.number k (omega arith)) (A.number (k + 1) l) fx (omega arith) h
 
-pub node-counted : (nodes : List Float) → Holds nodes → 2 ≤ length nodes → nodesOk nodes ≡ true → (x : Float) → T (fits binary32 x) → nodeInterval nodes x ≡ count (atMost nodes x) (length nodes - 1) - 1
-unfolding nodeInterval
-node-counted nodes H two ok x fx = interval-counted (atMost nodes x) (length nodes) (at-most-falls nodes (accepted nodes H two ok) x fx)
+pub node_counted : (nodes : List Float) → Holds nodes → 2 ≤ length nodes → nodes_ok nodes ≡ true → (x : Float) → T (fits binary32 x) → node_interval nodes x ≡ count (at_most nodes x) (length nodes - 1) - 1
+unfolding node_interval
+node_counted nodes H two ok x fx = interval_counted (at_most nodes x) (length nodes) (at_most_falls nodes (accepted nodes H two ok) x fx)
 
 -- what the check tries at the goals of `interval`
-pub ruleset counting = (node-counted)
+pub ruleset counting = (node_counted)
 
 -- the nodes increase exactly if each but the last is below the next
-pub increasing-counted : (nodes : List Float) (c : ℕ) → c ≡ count (rises nodes) (length nodes - 1) → eqb c (length nodes - 1) ≡ increasing nodes
+pub increasing_counted : (nodes : List Float) (c : ℕ) → c ≡ count (rises nodes) (length nodes - 1) → eqb c (length nodes - 1) ≡ increasing nodes
 unfolding increasing
-increasing-counted nodes c e = rw e (all-counted (rises nodes) (length nodes - 1))
+increasing_counted nodes c e = rw e (all_counted (rises nodes) (length nodes - 1))
 
 -- the same of `nodes`
-pub ruleset rising = (increasing-counted)
+pub ruleset rising = (increasing_counted)

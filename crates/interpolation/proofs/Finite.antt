@@ -1,5 +1,5 @@
--- Check 6 by what the code tests. A value is finite where it lies between the infinities (`finite-is`). Where each node is below the next, an inner node is finite, having a value below it and one above it,
--- and the two ends are where their difference is finite: so the first of the three tests follows from the others (`ok-is`). Assumes nothing.
+-- Check 6 by what the code tests. A value is finite where it lies between the infinities (`finite_is`). Where each node is below the next, an inner node is finite, having a value below it and one above it,
+-- and the two ends are where their difference is finite: so the first of the three tests follows from the others (`ok_is`). Assumes nothing.
 use mathlib.Core.Path.{◌≡◌, refl, sym, ◌∙◌}
 use mathlib.Core.Bool.{Bool, true, false, ◌&&◌, false≢true}
 use mathlib.Core.Logic.{inl, inr}
@@ -11,45 +11,45 @@ use native.Mathlib.Omega.{arith}
 use lib.ListN.{get_or, length}
 use lib.Ieee.{Float, nan, inf, fin, lt, add, sub, neg}
 use Rattle.elementary.specs.Notation.{◌⊕◌, ◌⊖◌}
-use Rattle.interpolation.specs.Nodes.{finite, allBelow, allFinite, increasing, nodesOk}
+use Rattle.interpolation.specs.Nodes.{finite, all_below, all_finite, increasing, nodes_ok}
 
-pub finite-is : (x : Float) → (lt (neg (inf false)) x && lt x (inf false)) ≡ finite x
+pub finite_is : (x : Float) → (lt (neg (inf false)) x && lt x (inf false)) ≡ finite x
 unfolding finite lt neg
-finite-is nan = refl
-finite-is (inf true) = refl
-finite-is (inf false) = refl
-finite-is (fin s m e) = refl
+finite_is nan = refl
+finite_is (inf true) = refl
+finite_is (inf false) = refl
+finite_is (fin s m e) = refl
 
 -- ---- each number below n passes, and back
 
-pub and-left : (a b : Bool) → (a && b) ≡ true → a ≡ true
-and-left true b h = refl
-and-left false b h = absurd (false≢true h)
+pub and_left : (a b : Bool) → (a && b) ≡ true → a ≡ true
+and_left true b h = refl
+and_left false b h = absurd (false≢true h)
 
-pub and-right : (a b : Bool) → (a && b) ≡ true → b ≡ true
-and-right true b h = h
-and-right false b h = absurd (false≢true h)
+pub and_right : (a b : Bool) → (a && b) ≡ true → b ≡ true
+and_right true b h = h
+and_right false b h = absurd (false≢true h)
 
-pub all-each : (p : ℕ → Bool) (n : ℕ) → ((k : ℕ) → k < n → p k ≡ true) → allBelow n p ≡ true
-unfolding allBelow
-all-each p zero h = refl
-all-each p (suc n) h = rw (all-each p n (λ k l. h k (omega arith)), h n (omega arith))
+pub all_each : (p : ℕ → Bool) (n : ℕ) → ((k : ℕ) → k < n → p k ≡ true) → all_below n p ≡ true
+unfolding all_below
+all_each p zero h = refl
+all_each p (suc n) h = rw (all_each p n (λ k l. h k (omega arith)), h n (omega arith))
 
-pub each : (p : ℕ → Bool) (n k : ℕ) → allBelow n p ≡ true → k < n → p k ≡ true
-unfolding allBelow
+pub each : (p : ℕ → Bool) (n k : ℕ) → all_below n p ≡ true → k < n → p k ≡ true
+unfolding all_below
 each p zero k h l = absurd (omega arith)
-each p (suc n) k h l = elim (eq-or-lt_of_le (within l)) [ inl e ↦ rw e (and-right (allBelow n p) (p n) h) | inr m ↦ each p n k (and-left (allBelow n p) (p n) h) m ]
+each p (suc n) k h l = elim (eq-or-lt_of_le (within l)) [ inl e ↦ rw e (and_right (all_below n p) (p n) h) | inr m ↦ each p n k (and_left (all_below n p) (p n) h) m ]
   where
     within : k < suc n → k ≤ n
     within l = omega arith
 
 -- ---- what the order and a finite sum or difference say of a value
 
-nan-right : (x : Float) → lt x nan ≡ false
+nan_right : (x : Float) → lt x nan ≡ false
 unfolding lt
-nan-right nan = refl
-nan-right (inf s) = refl
-nan-right (fin s m e) = refl
+nan_right nan = refl
+nan_right (inf s) = refl
+nan_right (fin s m e) = refl
 
 least : (x : Float) → lt x (inf true) ≡ false
 unfolding lt
@@ -66,33 +66,33 @@ most (fin s m e) = refl
 
 between : (x y z : Float) → lt x y ≡ true → lt y z ≡ true → finite y ≡ true
 unfolding finite
-between x nan z h k = absurd (false≢true (sym (nan-right x) ∙ h))
+between x nan z h k = absurd (false≢true (sym (nan_right x) ∙ h))
 between x (inf true) z h k = absurd (false≢true (sym (least x) ∙ h))
 between x (inf false) z h k = absurd (false≢true (sym (most z) ∙ k))
 between x (fin s m e) z h k = refl
 
-pub sum-ends : (x y : Float) → finite (x ⊕ y) ≡ true → (finite x ≡ true) × (finite y ≡ true)
+pub sum_ends : (x y : Float) → finite (x ⊕ y) ≡ true → (finite x ≡ true) × (finite y ≡ true)
 unfolding finite add
-sum-ends nan y h = absurd (false≢true h)
-sum-ends (inf s) nan h = absurd (false≢true h)
-sum-ends (inf true) (inf true) h = absurd (false≢true h)
-sum-ends (inf true) (inf false) h = absurd (false≢true h)
-sum-ends (inf false) (inf true) h = absurd (false≢true h)
-sum-ends (inf false) (inf false) h = absurd (false≢true h)
-sum-ends (inf s) (fin t n d) h = absurd (false≢true h)
-sum-ends (fin s m e) nan h = absurd (false≢true h)
-sum-ends (fin s m e) (inf t) h = absurd (false≢true h)
-sum-ends (fin s m e) (fin t n d) h = (refl, refl)
+sum_ends nan y h = absurd (false≢true h)
+sum_ends (inf s) nan h = absurd (false≢true h)
+sum_ends (inf true) (inf true) h = absurd (false≢true h)
+sum_ends (inf true) (inf false) h = absurd (false≢true h)
+sum_ends (inf false) (inf true) h = absurd (false≢true h)
+sum_ends (inf false) (inf false) h = absurd (false≢true h)
+sum_ends (inf s) (fin t n d) h = absurd (false≢true h)
+sum_ends (fin s m e) nan h = absurd (false≢true h)
+sum_ends (fin s m e) (inf t) h = absurd (false≢true h)
+sum_ends (fin s m e) (fin t n d) h = (refl, refl)
 
-finite-neg : (x : Float) → finite (neg x) ≡ finite x
+finite_neg : (x : Float) → finite (neg x) ≡ finite x
 unfolding finite neg
-finite-neg nan = refl
-finite-neg (inf s) = refl
-finite-neg (fin s m e) = refl
+finite_neg nan = refl
+finite_neg (inf s) = refl
+finite_neg (fin s m e) = refl
 
 ends : (x y : Float) → finite (x ⊖ y) ≡ true → (finite x ≡ true) × (finite y ≡ true)
 unfolding sub
-ends x y h = let both = sum-ends x (neg y) h in (both.0, sym (finite-neg y) ∙ both.1)
+ends x y h = let both = sum_ends x (neg y) h in (both.0, sym (finite_neg y) ∙ both.1)
 
 -- ---- the three tests
 
@@ -107,19 +107,19 @@ module _ (nodes : List Float) (two : 2 ≤ length nodes) where
   unfolding increasing
   rises h k l = each (λ j. lt (node j) (node (j + 1))) last k h l
 
-  node-finite : increasing nodes ≡ true → finite (node last ⊖ node 0) ≡ true → (k : ℕ) → k < length nodes → finite (node k) ≡ true
-  node-finite h f zero l = (ends (node last) (node 0) f).1
-  node-finite h f (suc k) l = elim (eq-or-lt_of_le (at-most l)) [
+  node_finite : increasing nodes ≡ true → finite (node last ⊖ node 0) ≡ true → (k : ℕ) → k < length nodes → finite (node k) ≡ true
+  node_finite h f zero l = (ends (node last) (node 0) f).1
+  node_finite h f (suc k) l = elim (eq-or-lt_of_le (at_most_lem l)) [
     | inl e ↦ rw e (ends (node last) (node 0) f).0
     | inr m ↦ between (node k) (node (suc k)) (node (suc k + 1)) (rw add-one at (rises h k (omega arith))) (rises h (suc k) m)
   ]
     where
-      at-most : suc k < length nodes → suc k ≤ last
-      at-most l = omega arith
+      at_most_lem : suc k < length nodes → suc k ≤ last
+      at_most_lem l = omega arith
 
-  pub ok-is : nodesOk nodes ≡ (increasing nodes && finite (node last ⊖ node 0))
-  unfolding nodesOk allFinite
-  ok-is = go (allFinite nodes) (increasing nodes) (finite (node last ⊖ node 0)) (λ h f. all-each (λ k. finite (node k)) (length nodes) (node-finite h f))
+  pub ok_is : nodes_ok nodes ≡ (increasing nodes && finite (node last ⊖ node 0))
+  unfolding nodes_ok all_finite
+  ok_is = go (all_finite nodes) (increasing nodes) (finite (node last ⊖ node 0)) (λ h f. all_each (λ k. finite (node k)) (length nodes) (node_finite h f))
     where
       go : (c a b : Bool) → (a ≡ true → b ≡ true → c ≡ true) → (c && a && b) ≡ (a && b)
       go true a b h = refl
@@ -128,4 +128,4 @@ module _ (nodes : List Float) (two : 2 ≤ length nodes) where
       go false false b h = refl
 
 -- what the check tries at the goals of `nodes`
-pub ruleset checking = (finite-is, ok-is)
+pub ruleset checking = (finite_is, ok_is)

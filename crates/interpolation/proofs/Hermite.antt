@@ -6,9 +6,9 @@ use native.Mathlib.Omega.{arith}
 use lib.Ieee.{Float, neg}
 use Rattle.elementary.specs.Notation.{◌⊕◌, ◌⊖◌, ◌⊗◌, lit}
 use Rattle.units.specs.Units.{one, plus}
-use Rattle.units.proofs.Held.{held-zero, held-one, held-2, held-3}
-use Rattle.units.proofs.Bounds.{In, neg-in, add-in, sub-in, mul-in}
-use Rattle.units.proofs.Literals.{one-in, one-value, two-in, held-twice, own, twice-one, shrinks, twice, twice-is, thrice, thrice-ge}
+use Rattle.units.proofs.Held.{held_zero, held_one, held_2, held_3}
+use Rattle.units.proofs.Bounds.{In, neg_in, add_in, sub_in, mul_in}
+use Rattle.units.proofs.Literals.{one_in, one_value, two_in, held_twice, own, twice_one, shrinks, twice, twice_is, thrice, thrice_ge}
 
 abbrev pub sq : Float → Float
 sq t = t ⊗ t
@@ -39,38 +39,38 @@ module _ {t : Float} (I : In t 0 one) where
   t3 : In (cu t) 0 (plus (sq t))
   t3 = shrinks t2 I.high I
 
-  t2-one : plus (sq t) ≤ one
-  t2-one = le_trans t2.high I.high
+  t2_one : plus (sq t) ≤ one
+  t2_one = le_trans t2.high I.high
 
   two3 : In (lit 0x40000000 ⊗ cu t) 0 (2 * plus (cu t))
-  two3 = twice t3 t2-one
+  two3 = twice t3 t2_one
 
   three2 : In (lit 0x40400000 ⊗ sq t) 0 (3 * one)
   three2 = thrice t2 I.high
 
-  two-three : 2 * plus (cu t) ≤ plus (lit 0x40400000 ⊗ sq t)
-  two-three = thrice-ge t2 I.high (held-twice t3 t2-one) t3.high
+  two_three : 2 * plus (cu t) ≤ plus (lit 0x40400000 ⊗ sq t)
+  two_three = thrice_ge t2 I.high (held_twice t3 t2_one) t3.high
 
   dip : In (lit 0x40000000 ⊗ cu t ⊖ lit 0x40400000 ⊗ sq t) (3 * one) 0
-  dip = sub-in two3 three2 held-3 held-zero (omega (arith, two3, three2)) (omega (arith, two3, two-three, three2))
+  dip = sub_in two3 three2 held_3 held_zero (omega (arith, two3, three2)) (omega (arith, two3, two_three, three2))
 
-  pub fall-in : In (fall t) (2 * one) one
-  fall-in = add-in dip one-in held-2 held-one (omega (arith, dip, one-value)) (omega (arith, dip, one-value))
+  pub fall_in : In (fall t) (2 * one) one
+  fall_in = add_in dip one_in held_2 held_one (omega (arith, dip, one_value)) (omega (arith, dip, one_value))
 
-  minus-two3 : In (neg (lit 0x40000000) ⊗ cu t) (2 * plus (cu t)) 0
-  minus-two3 = mul-in (neg-in two-in) (own t3 t2-one) (held-twice t3 t2-one) held-zero (twice-one t3 t2-one) (omega arith)
+  minus_two3 : In (neg (lit 0x40000000) ⊗ cu t) (2 * plus (cu t)) 0
+  minus_two3 = mul_in (neg_in two_in) (own t3 t2_one) (held_twice t3 t2_one) held_zero (twice_one t3 t2_one) (omega arith)
 
-  pub rise-in : In (rise t) 0 (3 * one)
-  rise-in = add-in minus-two3 three2 held-zero held-3 (omega (arith, minus-two3, two-three, three2)) (omega (arith, minus-two3, three2))
+  pub rise_in : In (rise t) 0 (3 * one)
+  rise_in = add_in minus_two3 three2 held_zero held_3 (omega (arith, minus_two3, two_three, three2)) (omega (arith, minus_two3, three2))
 
   inner : In (cu t ⊖ lit 0x40000000 ⊗ sq t) (2 * plus (sq t)) 0
   inner =
       let two2 = twice t2 I.high in
-      let is = twice-is t2 I.high in
-      sub-in t3 two2 (held-twice t2 I.high) held-zero (omega (arith, t3)) (omega (arith, t3))
+      let is = twice_is t2 I.high in
+      sub_in t3 two2 (held_twice t2 I.high) held_zero (omega (arith, t3)) (omega (arith, t3))
 
-  pub before-in : In (before t) one one
-  before-in = add-in inner I held-one held-one (omega (arith, inner, t2, t2-one)) (omega (arith, inner, t2))
+  pub before_in : In (before t) one one
+  before_in = add_in inner I held_one held_one (omega (arith, inner, t2, t2_one)) (omega (arith, inner, t2))
 
-  pub after-in : In (after t) one 0
-  after-in = sub-in t3 t2 held-one held-zero (omega (arith, t3, t2, t2-one)) (omega (arith, t3, t2))
+  pub after_in : In (after t) one 0
+  after_in = sub_in t3 t2 held_one held_zero (omega (arith, t3, t2, t2_one)) (omega (arith, t3, t2))

@@ -14,27 +14,27 @@ use Rattle.std.specs.Int.RustNames.{count_ones}
 use Rattle.std.proofs.lemmas.Simd.{bitmask_splat, length-chunk, pick_l-range_with_len, ones-mask_l, map-map, tops_compared, zip2_of_maps, mask_l-mod}
 use Rattle.std.proofs.lemmas.List.Sums.{count_by-le-length, sum_by-cons}
 use native.Mathlib.Nat.{add-zero}
-use Rattle.interpolation.specs.Interval.{atMost}
+use Rattle.interpolation.specs.Interval.{at_most}
 use Rattle.interpolation.specs.Nodes.{rises}
-use Rattle.interpolation.proofs.Counting.{count, count-more}
+use Rattle.interpolation.proofs.Counting.{count, count_more}
 
 -- the eight nodes from i on
 eight : (nodes : List Float) (i : ℕ) → i + 8 ≤ length nodes → chunk i 8 nodes ≡ map (λ k. get_or nodes k nan) (range_with_len i 8)
 eight nodes i l = sym (pick_l-range_with_len nan nodes i 8 l)
 
 -- of a comparison with x
-pub counted-at-most : (nodes : List Float) (x : Float) (i : ℕ) → i + 8 ≤ length nodes
-    → count_ones (mask_l (map (top (hbits w32)) (zip2 (λ a b. cond (le a b) (2 ^ bits w32 - 1) 0) (chunk i 8 nodes) (replicate 8 x))) % 2 ^ 64) ≡ count_by (atMost nodes x) (range_with_len i 8)
-unfolding atMost
-counted-at-most nodes x i l =
+pub counted_at_most : (nodes : List Float) (x : Float) (i : ℕ) → i + 8 ≤ length nodes
+    → count_ones (mask_l (map (top (hbits w32)) (zip2 (λ a b. cond (le a b) (2 ^ bits w32 - 1) 0) (chunk i 8 nodes) (replicate 8 x))) % 2 ^ 64) ≡ count_by (at_most nodes x) (range_with_len i 8)
+unfolding at_most
+counted_at_most nodes x i l =
     let mask = bitmask_splat w32 le (chunk i 8 nodes) 8 x (length-chunk i 8 nodes l) (omega arith) in
     let places = ap (map (λ a. le a x)) (eight nodes i l) ∙ map-map (λ a. le a x) (λ k. get_or nodes k nan) (range_with_len i 8) in
     ap count_ones (mask ∙ ap mask_l places) ∙ ones-mask_l (λ k. le (get_or nodes k nan) x) (range_with_len i 8)
 
 -- of a comparison with the next eight
-pub counted-rises : (nodes : List Float) (i : ℕ) → i + 9 ≤ length nodes
+pub counted_rises : (nodes : List Float) (i : ℕ) → i + 9 ≤ length nodes
     → count_ones (mask_l (map (top (hbits w32)) (zip2 (λ a b. cond (lt a b) (2 ^ bits w32 - 1) 0) (chunk i 8 nodes) (chunk (i + 1) 8 nodes))) % 2 ^ 64) ≡ count_by (rises nodes) (range_with_len i 8)
-counted-rises nodes i l =
+counted_rises nodes i l =
     let places = range_with_len i 8 in
     let next : chunk (i + 1) 8 nodes ≡ map (λ k. get_or nodes (k + 1) nan) places = eight nodes (i + 1) (omega arith) in
     let pairs = zip2_of_maps lt (λ k. get_or nodes k nan) (λ k. get_or nodes (k + 1) nan) places (eight nodes i (omega arith)) next in
@@ -46,15 +46,15 @@ pub few : (p : ℕ → Bool) (i : ℕ) → count_by p (range_with_len i 8) ≤ 8
 few p i = count_by-le-length p (range_with_len i 8)
 
 -- so many more pass below i + n than below i
-count-more-by : (p : ℕ → Bool) (n i : ℕ) → count p (i + n) ≡ count p i + count_by p (range_with_len i n)
-count-more-by p zero i = rw (add-zero i) (omega arith)
-count-more-by p (suc n) i =
+count_more_by : (p : ℕ → Bool) (n i : ℕ) → count p (i + n) ≡ count p i + count_by p (range_with_len i n)
+count_more_by p zero i = rw (add-zero i) (omega arith)
+count_more_by p (suc n) i =
     let e : i + suc n ≡ i + 1 + n = omega arith in
     let cons = sum_by-cons (λ x. cond (p x) 1 0) i (range_with_len (i + 1) n) in
-    rw (e, count-more-by p n (i + 1), count-more p i, cons) (omega arith)
+    rw (e, count_more_by p n (i + 1), count_more p i, cons) (omega arith)
 
-pub count-eight : (p : ℕ → Bool) (i : ℕ) → count p (i + 8) ≡ count p i + count_by p (range_with_len i 8)
-count-eight p i = count-more-by p 8 i
+pub count_eight : (p : ℕ → Bool) (i : ℕ) → count p (i + 8) ≡ count p i + count_by p (range_with_len i 8)
+count_eight p i = count_more_by p 8 i
 
 -- what the check tries where eight places are counted
-pub ruleset eights = (count-eight)
+pub ruleset eights = (count_eight)

@@ -1,4 +1,4 @@
--- A draw reads only rows of nonzero weight, as each of its blends does: tables that agree on those rows give the same draw (`draw-same`). Every column that the draw blends is one of the row's own:
+-- A draw reads only rows of nonzero weight, as each of its blends does: tables that agree on those rows give the same draw (`draw_same`). Every column that the draw blends is one of the row's own:
 -- the search asks below m, and the slopes ask for neighbours only where there are any. Assumes nothing.
 use mathlib.Core.Path.{◌≡◌, refl}
 use mathlib.Core.Bool.{Bool, true, false, cond}
@@ -11,41 +11,41 @@ use lib.IntN.{ℤ}
 use lib.ListN.{get_or, length}
 use lib.Ieee.{Float, nan}
 use Rattle.elementary.specs.Notation.{◌⊖◌, ◌⊗◌, ◌⊘◌}
-use Rattle.interpolation.specs.Interval.{bisect, findInterval}
-use Rattle.interpolation.specs.Slope.{width, slopeBefore, slopeAfter}
-use Rattle.interpolation.specs.Blend.{interpolate, blendAtMost, blendInterval}
-use Rattle.interpolation.specs.Sample.{segmentAt, drawFrom}
+use Rattle.interpolation.specs.Interval.{bisect, find_interval}
+use Rattle.interpolation.specs.Slope.{width, slope_before, slope_after}
+use Rattle.interpolation.specs.Blend.{interpolate, blend_at_most, blend_interval}
+use Rattle.interpolation.specs.Sample.{segment_at, draw_from}
 use Rattle.interpolation.specs.Laws.{Agree}
 use Rattle.interpolation.specs.declared.weights.Four.{Four}
 use Rattle.interpolation.specs.declared.weights.Weights.TheVariants.{At}
-use Rattle.interpolation.proofs.Rows.{interpolate-same, blend-bound}
+use Rattle.interpolation.proofs.Rows.{interpolate_same, blend_bound}
 
 -- ---- the search asks only below size
 
-bisect-same : (p q : ℕ → Bool) (n turns first len : ℕ) → ((k : ℕ) → k < n → p k ≡ q k) → first + len ≤ n → bisect p turns first len ≡ bisect q turns first len
+bisect_same : (p q : ℕ → Bool) (n turns first len : ℕ) → ((k : ℕ) → k < n → p k ≡ q k) → first + len ≤ n → bisect p turns first len ≡ bisect q turns first len
 unfolding bisect
-bisect-same p q n zero first len h l = refl
-bisect-same p q n (suc turns) first zero h l = refl
-bisect-same p q n (suc turns) first (suc m) h l =
+bisect_same p q n zero first len h l = refl
+bisect_same p q n (suc turns) first zero h l = refl
+bisect_same p q n (suc turns) first (suc m) h l =
     rw (
       h (first + suc m / 2) (omega arith),
-      bisect-same p q n turns (first + suc m / 2 + 1) (suc m - (suc m / 2 + 1)) h (omega arith),
-      bisect-same p q n turns first (suc m / 2) h (omega arith),
+      bisect_same p q n turns (first + suc m / 2 + 1) (suc m - (suc m / 2 + 1)) h (omega arith),
+      bisect_same p q n turns first (suc m / 2) h (omega arith),
     )
 
-find-same : (p q : ℕ → Bool) (n : ℕ) → ((k : ℕ) → k < n → p k ≡ q k) → findInterval p n ≡ findInterval q n
-unfolding findInterval
-find-same p q n h = rw (bisect-same p q n n 0 n h (omega arith))
+find_same : (p q : ℕ → Bool) (n : ℕ) → ((k : ℕ) → k < n → p k ≡ q k) → find_interval p n ≡ find_interval q n
+unfolding find_interval
+find_same p q n h = rw (bisect_same p q n n 0 n h (omega arith))
 
 -- ---- the slopes of values that agree below the number of nodes
 
-before-same : (x : List Float) (f g : ℕ → Float) (i : ℕ) → ((k : ℕ) → k < length x → f k ≡ g k) → i + 1 < length x → slopeBefore x f i ≡ slopeBefore x g i
-unfolding slopeBefore
-before-same x f g i h l = rw (h (i + 1) l, h (i - 1) (omega arith), h i (omega arith))
+before_same : (x : List Float) (f g : ℕ → Float) (i : ℕ) → ((k : ℕ) → k < length x → f k ≡ g k) → i + 1 < length x → slope_before x f i ≡ slope_before x g i
+unfolding slope_before
+before_same x f g i h l = rw (h (i + 1) l, h (i - 1) (omega arith), h i (omega arith))
 
-after-same : (x : List Float) (f g : ℕ → Float) (i : ℕ) → ((k : ℕ) → k < length x → f k ≡ g k) → i + 1 < length x → slopeAfter x f i ≡ slopeAfter x g i
-unfolding slopeAfter
-after-same x f g i h l = go (ltb (i + 2) (length x)) refl
+after_same : (x : List Float) (f g : ℕ → Float) (i : ℕ) → ((k : ℕ) → k < length x → f k ≡ g k) → i + 1 < length x → slope_after x f i ≡ slope_after x g i
+unfolding slope_after
+after_same x f g i h l = go (ltb (i + 2) (length x)) refl
   where
     go : (b : Bool) → ltb (i + 2) (length x) ≡ b
         → cond b (width x i ⊗ (f (i + 2) ⊖ f i) ⊘ (get_or x (i + 2) nan ⊖ get_or x i nan)) (f (i + 1) ⊖ f i) ≡ cond b (width x i ⊗ (g (i + 2) ⊖ g i) ⊘ (get_or x (i + 2) nan ⊖ get_or x i nan)) (g (i + 1) ⊖ g i)
@@ -59,30 +59,30 @@ module _ (nodes2 values values' cdf cdf' : List Float) (offset : ℤ) (f : Four)
   abbrev m : ℕ
   m = length nodes2
 
-  same-cdf : (k : ℕ) → k < length nodes2 → interpolate cdf (length nodes2) offset f k ≡ interpolate cdf' (length nodes2) offset f k
-  same-cdf k l = interpolate-same cdf cdf' m offset f k B l
+  same_cdf : (k : ℕ) → k < length nodes2 → interpolate cdf (length nodes2) offset f k ≡ interpolate cdf' (length nodes2) offset f k
+  same_cdf k l = interpolate_same cdf cdf' m offset f k B l
 
-  same-values : (k : ℕ) → k < length nodes2 → interpolate values (length nodes2) offset f k ≡ interpolate values' (length nodes2) offset f k
-  same-values k l = interpolate-same values values' m offset f k A l
+  same_values : (k : ℕ) → k < length nodes2 → interpolate values (length nodes2) offset f k ≡ interpolate values' (length nodes2) offset f k
+  same_values k l = interpolate_same values values' m offset f k A l
 
-  interval-same : (u : Float) → blendInterval cdf (length nodes2) offset f u ≡ blendInterval cdf' (length nodes2) offset f u
-  unfolding blendInterval blendAtMost
-  interval-same u = find-same (blendAtMost cdf m offset f u) (blendAtMost cdf' m offset f u) m (λ k l. rw (same-cdf k l))
+  interval_same : (u : Float) → blend_interval cdf (length nodes2) offset f u ≡ blend_interval cdf' (length nodes2) offset f u
+  unfolding blend_interval blend_at_most
+  interval_same u = find_same (blend_at_most cdf m offset f u) (blend_at_most cdf' m offset f u) m (λ k l. rw (same_cdf k l))
 
-  segment-same : (u : Float) (i : ℕ) → i + 1 < length nodes2 → segmentAt nodes2 values cdf offset f u i ≡ segmentAt nodes2 values' cdf' offset f u i
-  unfolding segmentAt
-  segment-same u i l =
+  segment_same : (u : Float) (i : ℕ) → i + 1 < length nodes2 → segment_at nodes2 values cdf offset f u i ≡ segment_at nodes2 values' cdf' offset f u i
+  unfolding segment_at
+  segment_same u i l =
       rw (
-        same-values i (omega arith),
-        same-values (i + 1) l,
-        before-same nodes2 (interpolate values m offset f) (interpolate values' m offset f) i same-values l,
-        after-same nodes2 (interpolate values m offset f) (interpolate values' m offset f) i same-values l,
-        same-cdf i (omega arith),
+        same_values i (omega arith),
+        same_values (i + 1) l,
+        before_same nodes2 (interpolate values m offset f) (interpolate values' m offset f) i same_values l,
+        after_same nodes2 (interpolate values m offset f) (interpolate values' m offset f) i same_values l,
+        same_cdf i (omega arith),
       )
 
-  pub draw-same : (u : Float) (allowance : ℕ) → drawFrom nodes2 values cdf (At offset f) u allowance ≡ drawFrom nodes2 values' cdf' (At offset f) u allowance
-  unfolding drawFrom
-  draw-same u allowance =
+  pub draw_same : (u : Float) (allowance : ℕ) → draw_from nodes2 values cdf (At offset f) u allowance ≡ draw_from nodes2 values' cdf' (At offset f) u allowance
+  unfolding draw_from
+  draw_same u allowance =
       let target = u ⊗ interpolate cdf' m offset f (m - 1) in
-      let i = blendInterval cdf' m offset f target in
-      rw (same-cdf (m - 1) (omega arith), interval-same target, segment-same target i (omega (arith, blend-bound cdf' m offset f target)))
+      let i = blend_interval cdf' m offset f target in
+      rw (same_cdf (m - 1) (omega arith), interval_same target, segment_same target i (omega (arith, blend_bound cdf' m offset f target)))

@@ -3,32 +3,32 @@ use Rattle.std.specs.Prelude.{ℕ, suc, ◌+◌, ◌-◌, ◌*◌, ◌≤◌, �
 use Rattle.std.specs.Float.{nan}
 use Rattle.std.specs.Float.Ieee.{eq, le}
 use Rattle.elementary.specs.Notation.{◌⊕◌, ◌⊗◌, lit}
-use Rattle.interpolation.specs.Interval.{findInterval}
+use Rattle.interpolation.specs.Interval.{find_interval}
 use Rattle.interpolation.specs.declared.weights.Four.{Four}
 
--- The row of weight k, which is offset + k. It is below 0 only at weight 0 of the offset -1; that weight is zero, and its row is not read (`reach-of-weights` of proofs/Reach).
-unfoldable pub rowOf : ℤ → ℕ → ℕ
-rowOf (pos o) k = o + k
-rowOf (negsuc j) k = k - suc j
+-- The row of weight k, which is offset + k. It is below 0 only at weight 0 of the offset -1; that weight is zero, and its row is not read (`reach_of_weights` of proofs/Reach).
+unfoldable pub row_of : ℤ → ℕ → ℕ
+row_of (pos o) k = o + k
+row_of (negsuc j) k = k - suc j
 
 -- the value with one row's part, for the weight w: ±0 is a zero weight
-unfoldable pub addRow : List Float → ℕ → ℕ → ℕ → Float → Float → Float
-addRow table m row col w value = cond (eq w (lit 0)) value (value ⊕ get_or table (row * m + col) nan ⊗ w)
+unfoldable pub add_row : List Float → ℕ → ℕ → ℕ → Float → Float → Float
+add_row table m row col w value = cond (eq w (lit 0)) value (value ⊕ get_or table (row * m + col) nan ⊗ w)
 
 -- column `col` of a table with m columns, blended
 unfoldable pub interpolate : List Float → ℕ → ℤ → Four → ℕ → Float
 interpolate table m offset f col =
-    let v0 = addRow table m (rowOf offset 0) col f.w0 (lit 0) in
-    let v1 = addRow table m (rowOf offset 1) col f.w1 v0 in
-    let v2 = addRow table m (rowOf offset 2) col f.w2 v1 in
-    addRow table m (rowOf offset 3) col f.w3 v2
+    let v0 = add_row table m (row_of offset 0) col f.w0 (lit 0) in
+    let v1 = add_row table m (row_of offset 1) col f.w1 v0 in
+    let v2 = add_row table m (row_of offset 2) col f.w2 v1 in
+    add_row table m (row_of offset 3) col f.w3 v2
 
 -- the search over a blended CDF: its test is whether column k is at most u
-unfoldable pub blendAtMost : List Float → ℕ → ℤ → Four → Float → ℕ → Bool
-blendAtMost cdf m offset f u k = le (interpolate cdf m offset f k) u
+unfoldable pub blend_at_most : List Float → ℕ → ℤ → Four → Float → ℕ → Bool
+blend_at_most cdf m offset f u k = le (interpolate cdf m offset f k) u
 
-unfoldable pub blendInterval : List Float → ℕ → ℤ → Four → Float → ℕ
-blendInterval cdf m offset f u = findInterval (blendAtMost cdf m offset f u) m
+unfoldable pub blend_interval : List Float → ℕ → ℤ → Four → Float → ℕ
+blend_interval cdf m offset f u = find_interval (blend_at_most cdf m offset f u) m
 
 -- what reading asks for: each row of nonzero weight lies within the table. Weight k has the row i + k - 1, which ends at (i + k) * m; weights 1 and 2 always have one
 pub record InTable (table : List Float) (m i : ℕ) (f : Four) : Type 0 where

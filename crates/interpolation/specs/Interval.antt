@@ -16,12 +16,12 @@ bisect p (suc turns) first (suc m) =
     cond (p (first + half)) upper lower
 
 -- `clamp_t(first - 1, 0, size - 2)` of where the loop ends: over natural numbers 0 - 1 is 0
-unfoldable pub findInterval : (ℕ → Bool) → ℕ → ℕ
-findInterval p size = min (bisect p size 0 size - 1) (size - 2)
+unfoldable pub find_interval : (ℕ → Bool) → ℕ → ℕ
+find_interval p size = min (bisect p size 0 size - 1) (size - 2)
 
 -- the search over a node list: its test is whether node k is at most x
-unfoldable pub atMost : List Float → Float → ℕ → Bool
-atMost nodes x k = le (get_or nodes k nan) x
+unfoldable pub at_most : List Float → Float → ℕ → Bool
+at_most nodes x k = le (get_or nodes k nan) x
 
-unfoldable pub nodeInterval : List Float → Float → ℕ
-nodeInterval nodes x = findInterval (atMost nodes x) (length nodes)
+unfoldable pub node_interval : List Float → Float → ℕ
+node_interval nodes x = find_interval (at_most nodes x) (length nodes)

@@ -11,20 +11,20 @@ finite (inf s) = false
 finite (fin s m e) = true
 
 -- p holds of each number below n
-unfoldable pub allBelow : ℕ → (ℕ → Bool) → Bool
-allBelow zero p = true
-allBelow (suc n) p = allBelow n p && p n
+unfoldable pub all_below : ℕ → (ℕ → Bool) → Bool
+all_below zero p = true
+all_below (suc n) p = all_below n p && p n
 
-unfoldable pub allFinite : List Float → Bool
-allFinite nodes = allBelow (length nodes) (λ k. finite (get_or nodes k nan))
+unfoldable pub all_finite : List Float → Bool
+all_finite nodes = all_below (length nodes) (λ k. finite (get_or nodes k nan))
 
 -- node k is below the next
 abbrev pub rises : List Float → ℕ → Bool
 rises nodes k = lt (get_or nodes k nan) (get_or nodes (k + 1) nan)
 
 unfoldable pub increasing : List Float → Bool
-increasing nodes = allBelow (length nodes - 1) (rises nodes)
+increasing nodes = all_below (length nodes - 1) (rises nodes)
 
 -- the nodes are finite and strictly increasing, and the last minus the first is finite
-unfoldable pub nodesOk : List Float → Bool
-nodesOk nodes = allFinite nodes && increasing nodes && finite (get_or nodes (length nodes - 1) nan ⊖ get_or nodes 0 nan)
+unfoldable pub nodes_ok : List Float → Bool
+nodes_ok nodes = all_finite nodes && increasing nodes && finite (get_or nodes (length nodes - 1) nan ⊖ get_or nodes 0 nan)

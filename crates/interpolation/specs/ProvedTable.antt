@@ -4,9 +4,9 @@ use Rattle.std.specs.Float.Ieee.{neg}
 use Rattle.elementary.specs.Notation.{lit}
 use Rattle.elementary.specs.Root.{sqrt}
 use Rattle.elementary.specs.Exponential.{exp}
-use Rattle.interpolation.specs.Checks.{maxAllowance}
+use Rattle.interpolation.specs.Checks.{max_allowance}
 use Rattle.answers.specs.Answer.{Answer, refusal, value}
-use Rattle.interpolation.specs.Own.{weights, integral, cdfAfter, sample2d}
+use Rattle.interpolation.specs.Own.{weights, integral, cdf_after, sample2d}
 
 -- ---- the numbers of the table
 
@@ -48,7 +48,7 @@ n1/16 = lit 0x3d80_0000
 abbrev pub n¾ : Float
 n¾ = lit 0x3f40_0000
 
--- 2 - 2^-21, exactly (`near2-is` of proofs/Table)
+-- 2 - 2^-21, exactly (`near2_is` of proofs/Table)
 abbrev pub near2 : Float
 near2 = lit 0x3fff_fffc
 
@@ -70,23 +70,23 @@ sampled values cdf allowance = sample2d nodes2 nodes3 values cdf n0 n¾ allowanc
 
 pub record ProvedTable : Type 0 where
   -- nodes 0, 1, 2
-  pub at-0 : weights nodes3 n0 ≡ value (n0 ∷ n1 ∷ n0 ∷ n0 ∷ []) (negsuc 0 ∷ [])
-  pub at-1 : weights nodes3 n1 ≡ value (minus0 ∷ n1 ∷ n0 ∷ n0 ∷ []) (pos 0 ∷ [])
-  pub at-2 : weights nodes3 n2 ≡ value (minus0 ∷ n0 ∷ n1 ∷ n0 ∷ []) (pos 0 ∷ [])
-  pub at-½ : weights nodes3 n½ ≡ value (n0 ∷ n7/16 ∷ n5/8 ∷ neg n1/16 ∷ []) (negsuc 0 ∷ [])
-  pub at-1½ : weights nodes3 n1½ ≡ value (neg n1/16 ∷ n5/8 ∷ n7/16 ∷ n0 ∷ []) (pos 0 ∷ [])
-  pub at-2½-outside : weights nodes3 n2½ ≡ value [] []
+  pub at_0 : weights nodes3 n0 ≡ value (n0 ∷ n1 ∷ n0 ∷ n0 ∷ []) (negsuc 0 ∷ [])
+  pub at_1 : weights nodes3 n1 ≡ value (minus0 ∷ n1 ∷ n0 ∷ n0 ∷ []) (pos 0 ∷ [])
+  pub at_2 : weights nodes3 n2 ≡ value (minus0 ∷ n0 ∷ n1 ∷ n0 ∷ []) (pos 0 ∷ [])
+  pub at_½ : weights nodes3 n½ ≡ value (n0 ∷ n7/16 ∷ n5/8 ∷ neg n1/16 ∷ []) (negsuc 0 ∷ [])
+  pub at_1½ : weights nodes3 n1½ ≡ value (neg n1/16 ∷ n5/8 ∷ n7/16 ∷ n0 ∷ []) (pos 0 ∷ [])
+  pub at_2½_outside : weights nodes3 n2½ ≡ value [] []
   -- nodes 0, 1
-  pub between-two : weights nodes2 n½ ≡ value (n0 ∷ n½ ∷ n½ ∷ n0 ∷ []) (negsuc 0 ∷ [])
+  pub between_two : weights nodes2 n½ ≡ value (n0 ∷ n½ ∷ n½ ∷ n0 ∷ []) (negsuc 0 ∷ [])
   -- the integral on 0, 1, 2 of values 0, 2, 4, whatever the list held: CDF 0, 1, 4
-  pub the-sum : (a b c : Float) → integral nodes3 (n0 ∷ n2 ∷ n4 ∷ []) (a ∷ b ∷ c ∷ []) ≡ value (n4 ∷ []) []
-  pub the-cdf : (a b c : Float) → cdfAfter nodes3 (n0 ∷ n2 ∷ n4 ∷ []) (a ∷ b ∷ c ∷ []) ≡ n0 ∷ n1 ∷ n4 ∷ []
+  pub the_sum : (a b c : Float) → integral nodes3 (n0 ∷ n2 ∷ n4 ∷ []) (a ∷ b ∷ c ∷ []) ≡ value (n4 ∷ []) []
+  pub the_cdf : (a b c : Float) → cdf_after nodes3 (n0 ∷ n2 ∷ n4 ∷ []) (a ∷ b ∷ c ∷ []) ≡ n0 ∷ n1 ∷ n4 ∷ []
   -- values 1, 1, 1, CDF 0, 1, 2: position 1.5, value 1, density 0.5, one round, under every accepted allowance
-  pub ones : (allowance : ℕ) → 1 ≤ allowance → allowance ≤ maxAllowance → sampled (over0 n1 n1 n1) (over0 n0 n1 n2) allowance ≡ value (n1½ ∷ n1 ∷ n½ ∷ []) (pos 1 ∷ [])
+  pub ones : (allowance : ℕ) → 1 ≤ allowance → allowance ≤ max_allowance → sampled (over0 n1 n1 n1) (over0 n0 n1 n2) allowance ≡ value (n1½ ∷ n1 ∷ n½ ∷ []) (pos 1 ∷ [])
   -- values 0, 0, 0, CDF 0, 1, 2: allowance 20 gets 13, and 21 gives position 2 - 2^-21 after 21 rounds
-  pub zeros-20 : sampled (over0 n0 n0 n0) (over0 n0 n1 n2) 20 ≡ refusal 13
-  pub zeros-21 : sampled (over0 n0 n0 n0) (over0 n0 n1 n2) 21 ≡ value (near2 ∷ n0 ∷ n0 ∷ []) (pos 21 ∷ [])
+  pub zeros_20 : sampled (over0 n0 n0 n0) (over0 n0 n1 n2) 20 ≡ refusal 13
+  pub zeros_21 : sampled (over0 n0 n0 n0) (over0 n0 n1 n2) 21 ≡ value (near2 ∷ n0 ∷ n0 ∷ []) (pos 21 ∷ [])
   -- the stand-ins: Q(2), Q(2^-148) = 2^-74, E(0) = 1
-  pub root-of-2 : sqrt n2 ≡ lit 0x3fb5_04f3
-  pub root-of-2^-148 : sqrt (lit 2) ≡ lit 0x1a80_0000
-  pub exp-of-0 : exp n0 ≡ n1
+  pub root_of_2 : sqrt n2 ≡ lit 0x3fb5_04f3
+  pub root_of_2^_148 : sqrt (lit 2) ≡ lit 0x1a80_0000
+  pub exp_of_0 : exp n0 ≡ n1

@@ -2,9 +2,9 @@
 use Rattle.std.specs.Prelude.{ℕ, ◌+◌, ◌-◌, List, ℤ, get_or, length, Float}
 use Rattle.std.specs.Float.{nan}
 use Rattle.elementary.specs.Notation.{◌⊕◌, ◌⊖◌, ◌⊗◌, ◌⊘◌}
-use Rattle.interpolation.specs.Weights.{catmullRomWeights}
-use Rattle.interpolation.specs.Slope.{width, slopeBefore, slopeAfter}
-use Rattle.interpolation.specs.Blend.{interpolate, blendInterval}
+use Rattle.interpolation.specs.Weights.{catmull_rom_weights}
+use Rattle.interpolation.specs.Slope.{width, slope_before, slope_after}
+use Rattle.interpolation.specs.Blend.{interpolate, blend_interval}
 use Rattle.interpolation.specs.Solve.{solve}
 use Rattle.interpolation.specs.declared.weights.Four.{Four}
 use Rattle.interpolation.specs.declared.weights.Weights.{Weights}
@@ -16,15 +16,15 @@ use Rattle.interpolation.specs.declared.sample.Sample.{Sample}
 use Rattle.interpolation.specs.declared.sample.Sample.TheVariants.{At as SampleAt, Outside as SampleOutside, Refused}
 
 -- the segment i of the blended values, and the target of its integral
-unfoldable pub segmentAt : List Float → List Float → List Float → ℤ → Four → Float → ℕ → Segment
-segmentAt nodes2 values cdf offset w u i =
+unfoldable pub segment_at : List Float → List Float → List Float → ℤ → Four → Float → ℕ → Segment
+segment_at nodes2 values cdf offset w u i =
     let m = length nodes2 in
     let f : ℕ → Float = interpolate values m offset w in
     record {
       f0 = f i;
       f1 = f (i + 1);
-      d0 = slopeBefore nodes2 f i;
-      d1 = slopeAfter nodes2 f i;
+      d0 = slope_before nodes2 f i;
+      d1 = slope_after nodes2 f i;
       u = (u ⊖ interpolate cdf m offset w i) ⊘ width nodes2 i;
     }
 
@@ -34,14 +34,14 @@ drawn nodes2 i maximum (SolvedAt t value rounds) = SampleAt (get_or nodes2 i nan
 drawn nodes2 i maximum Exhausted = Refused 13
 
 -- the draw, of the rows that the offset and the weights w blend
-unfoldable pub drawFrom : List Float → List Float → List Float → Weights → Float → ℕ → Sample
-drawFrom nodes2 values cdf (At offset w) u allowance =
+unfoldable pub draw_from : List Float → List Float → List Float → Weights → Float → ℕ → Sample
+draw_from nodes2 values cdf (At offset w) u allowance =
     let m = length nodes2 in
     let maximum = interpolate cdf m offset w (m - 1) in
     let target = u ⊗ maximum in
-    let i = blendInterval cdf m offset w target in
-    drawn nodes2 i maximum (solve (segmentAt nodes2 values cdf offset w target i) allowance)
-drawFrom nodes2 values cdf Outside u allowance = SampleOutside
+    let i = blend_interval cdf m offset w target in
+    drawn nodes2 i maximum (solve (segment_at nodes2 values cdf offset w target i) allowance)
+draw_from nodes2 values cdf Outside u allowance = SampleOutside
 
-unfoldable pub sampleCatmullRom2d : List Float → List Float → List Float → List Float → Float → Float → ℕ → Sample
-sampleCatmullRom2d nodes1 nodes2 values cdf alpha u allowance = drawFrom nodes2 values cdf (catmullRomWeights nodes1 alpha) u allowance
+unfoldable pub sample_catmull_rom_2d : List Float → List Float → List Float → List Float → Float → Float → ℕ → Sample
+sample_catmull_rom_2d nodes1 nodes2 values cdf alpha u allowance = draw_from nodes2 values cdf (catmull_rom_weights nodes1 alpha) u allowance

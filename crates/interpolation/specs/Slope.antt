@@ -8,11 +8,11 @@ unfoldable pub width : List Float → ℕ → Float
 width x i = get_or x (i + 1) nan ⊖ get_or x i nan
 
 -- d0, at the start of the segment i: from the node before it, if there is one
-unfoldable pub slopeBefore : List Float → (ℕ → Float) → ℕ → Float
-slopeBefore x f i =
+unfoldable pub slope_before : List Float → (ℕ → Float) → ℕ → Float
+slope_before x f i =
     cond (ltb 0 i) (width x i ⊗ (f (i + 1) ⊖ f (i - 1)) ⊘ (get_or x (i + 1) nan ⊖ get_or x (i - 1) nan)) (f (i + 1) ⊖ f i)
 
 -- d1, at its end: from the node after it, if there is one
-unfoldable pub slopeAfter : List Float → (ℕ → Float) → ℕ → Float
-slopeAfter x f i =
+unfoldable pub slope_after : List Float → (ℕ → Float) → ℕ → Float
+slope_after x f i =
     cond (ltb (i + 2) (length x)) (width x i ⊗ (f (i + 2) ⊖ f i) ⊘ (get_or x (i + 2) nan ⊖ get_or x i nan)) (f (i + 1) ⊖ f i)

@@ -11,26 +11,26 @@ use Rattle.interpolation.specs.declared.solve.Solved.{Solved}
 use Rattle.interpolation.specs.declared.solve.Solved.TheVariants.{At, Exhausted}
 
 -- the first t, by sampling a linear interpolant
-unfoldable pub firstGuess : Segment → Float
-firstGuess s =
+unfoldable pub first_guess : Segment → Float
+first_guess s =
     cond (eq s.f0 s.f1) (s.u ⊘ s.f0)
     ((s.f0 ⊖ sqrt (max0 (s.f0 ⊗ s.f0 ⊕ lit 0x40000000 ⊗ s.u ⊗ (s.f1 ⊖ s.f0)))) ⊘ (s.f0 ⊖ s.f1))
 
 -- t, or the middle of a and b where t does not lie between them
-unfoldable pub boundedBy : Float → Float → Float → Float
-boundedBy t a b =
+unfoldable pub bounded_by : Float → Float → Float → Float
+bounded_by t a b =
     let middle = lit 0x3f000000 ⊗ (a ⊕ b) in
     cond (le a t) (cond (le t b) t middle) middle
 
 -- `f_hat`: the integral of the segment up to t
-unfoldable pub integralAt : Segment → Float → Float
-integralAt s t =
+unfoldable pub integral_at : Segment → Float → Float
+integral_at s t =
     t ⊗ (s.f0 ⊕ t ⊗ (lit 0x3f000000 ⊗ s.d0 ⊕ t ⊗ (lit 0x3f800000 ⊘ lit 0x40400000 ⊗ (neg (lit 0x40000000) ⊗ s.d0 ⊖ s.d1) ⊕ s.f1 ⊖ s.f0
     ⊕ t ⊗ (lit 0x3e800000 ⊗ (s.d0 ⊕ s.d1) ⊕ lit 0x3f000000 ⊗ (s.f0 ⊖ s.f1)))))
 
 -- `fhat`: its value at t
-unfoldable pub valueAt : Segment → Float → Float
-valueAt s t =
+unfoldable pub value_at : Segment → Float → Float
+value_at s t =
     s.f0 ⊕ t ⊗ (s.d0 ⊕ t ⊗ (neg (lit 0x40000000) ⊗ s.d0 ⊖ s.d1 ⊕ lit 0x40400000 ⊗ (s.f1 ⊖ s.f0) ⊕ t ⊗ (s.d0 ⊕ s.d1 ⊕ lit 0x40000000 ⊗ (s.f0 ⊖ s.f1))))
 
 -- whether the loop ends, for the difference d from the target and the bounds a and b
@@ -38,22 +38,22 @@ unfoldable pub stops : Float → Float → Float → Bool
 stops d a b = cond (lt (abs d) (lit 0x358637bd)) true (lt (b ⊖ a) (lit 0x358637bd))
 
 -- one round: where it evaluates, what it finds there, and where the next round begins
-unfoldable pub roundOf : Segment → Float → Float → Float → Round
-roundOf s from a b =
-    let t = boundedBy from a b in
-    let d = integralAt s t ⊖ s.u in
-    let v = valueAt s t in
+unfoldable pub round_of : Segment → Float → Float → Float → Round
+round_of s from a b =
+    let t = bounded_by from a b in
+    let d = integral_at s t ⊖ s.u in
+    let v = value_at s t in
     let below = lt d (lit 0) in
     record { stop = stops d a b; t = t; value = v; next = t ⊖ d ⊘ v; a = cond below t a; b = cond below b t }
 
 -- the rounds from t, a and b on, `left` at most, after `made`
-unfoldable pub solveFrom : Segment → ℕ → ℕ → Float → Float → Float → Solved
-solveFrom s zero made t a b = Exhausted
-solveFrom s (suc left) made t a b =
-    let r = roundOf s t a b in
-    let rest = solveFrom s left (made + 1) r.next r.a r.b in
+unfoldable pub solve_from : Segment → ℕ → ℕ → Float → Float → Float → Solved
+solve_from s zero made t a b = Exhausted
+solve_from s (suc left) made t a b =
+    let r = round_of s t a b in
+    let rest = solve_from s left (made + 1) r.next r.a r.b in
     cond r.stop (At r.t r.value (made + 1)) rest
 
 -- the whole loop, which begins with the bounds 0 and 1
 unfoldable pub solve : Segment → ℕ → Solved
-solve s allowance = solveFrom s allowance 0 (firstGuess s) (lit 0) (lit 0x3f800000)
+solve s allowance = solve_from s allowance 0 (first_guess s) (lit 0) (lit 0x3f800000)

@@ -3,7 +3,7 @@ use Rattle.std.specs.Prelude.{ℕ, zero, suc, ◌+◌, ◌-◌, Bool, cond, fals
 use Rattle.std.specs.Float.{nan}
 use Rattle.std.specs.Float.Ieee.{le, neg}
 use Rattle.elementary.specs.Notation.{◌⊕◌, ◌⊖◌, ◌⊗◌, ◌⊘◌, lit}
-use Rattle.interpolation.specs.Interval.{nodeInterval}
+use Rattle.interpolation.specs.Interval.{node_interval}
 use Rattle.interpolation.specs.declared.weights.Four.{Four}
 use Rattle.interpolation.specs.declared.weights.Weights.{Weights}
 use Rattle.interpolation.specs.declared.weights.Weights.TheVariants.{At, Outside}
@@ -13,8 +13,8 @@ unfoldable pub within : List Float → Float → Bool
 within nodes x = cond (le (get_or nodes 0 nan) x) (le x (get_or nodes (length nodes - 1) nan)) false
 
 -- the Rust's local `w0`, at the parameter t of the interval i: t3 - 2 t2 + t, scaled where a node stands before the interval
-unfoldable pub firstPart : List Float → ℕ → Float → Float
-firstPart nodes i t =
+unfoldable pub first_part : List Float → ℕ → Float → Float
+first_part nodes i t =
     let x0 = get_or nodes i nan in
     let x1 = get_or nodes (i + 1) nan in
     let t2 = t ⊗ t in
@@ -23,8 +23,8 @@ firstPart nodes i t =
     cond (ltb 0 i) (p ⊗ (x1 ⊖ x0) ⊘ (x1 ⊖ get_or nodes (i - 1) nan)) p
 
 -- its local `w3`: t3 - t2, scaled where a node stands after the interval
-unfoldable pub lastPart : List Float → ℕ → Float → Float
-lastPart nodes i t =
+unfoldable pub last_part : List Float → ℕ → Float → Float
+last_part nodes i t =
     let x0 = get_or nodes i nan in
     let x1 = get_or nodes (i + 1) nan in
     let t2 = t ⊗ t in
@@ -33,8 +33,8 @@ lastPart nodes i t =
     cond (ltb (i + 2) (length nodes)) (p ⊗ (x1 ⊖ x0) ⊘ (get_or nodes (i + 2) nan ⊖ x0)) p
 
 -- the weights in the interval i: 0x40000000 is 2, 0x40400000 is 3 and 0x3f800000 is 1
-unfoldable pub fourAt : List Float → Float → ℕ → Four
-fourAt nodes x i =
+unfoldable pub four_at : List Float → Float → ℕ → Four
+four_at nodes x i =
     let x0 = get_or nodes i nan in
     let x1 = get_or nodes (i + 1) nan in
     let t = (x ⊖ x0) ⊘ (x1 ⊖ x0) in
@@ -42,8 +42,8 @@ fourAt nodes x i =
     let t3 = t2 ⊗ t in
     let w1 = lit 0x40000000 ⊗ t3 ⊖ lit 0x40400000 ⊗ t2 ⊕ lit 0x3f800000 in
     let w2 = neg (lit 0x40000000) ⊗ t3 ⊕ lit 0x40400000 ⊗ t2 in
-    let p0 = firstPart nodes i t in
-    let p3 = lastPart nodes i t in
+    let p0 = first_part nodes i t in
+    let p3 = last_part nodes i t in
     let before = ltb 0 i in
     let after = ltb (i + 2) (length nodes) in
     record {
@@ -54,18 +54,18 @@ fourAt nodes x i =
     }
 
 -- the weight at a place, counted from 0
-abbrev pub weightAt : Four → ℕ → Float
-weightAt f zero = f.w0
-weightAt f (suc zero) = f.w1
-weightAt f (suc (suc zero)) = f.w2
-weightAt f (suc (suc (suc p))) = f.w3
+abbrev pub weight_at : Four → ℕ → Float
+weight_at f zero = f.w0
+weight_at f (suc zero) = f.w1
+weight_at f (suc (suc zero)) = f.w2
+weight_at f (suc (suc (suc p))) = f.w3
 
 -- the first of the four nodes around the interval i: i - 1
-unfoldable pub offsetOf : ℕ → ℤ
-offsetOf zero = negsuc 0
-offsetOf (suc i) = pos i
+unfoldable pub offset_of : ℕ → ℤ
+offset_of zero = negsuc 0
+offset_of (suc i) = pos i
 
-unfoldable pub catmullRomWeights : List Float → Float → Weights
-catmullRomWeights nodes x =
-    let i = nodeInterval nodes x in
-    cond (within nodes x) (At (offsetOf i) (fourAt nodes x i)) Outside
+unfoldable pub catmull_rom_weights : List Float → Float → Weights
+catmull_rom_weights nodes x =
+    let i = node_interval nodes x in
+    cond (within nodes x) (At (offset_of i) (four_at nodes x i)) Outside

@@ -14,7 +14,7 @@ pub const MAX_RADII: usize = 64;
 // The most rounds that a caller may allow.
 pub const MAX_ALLOWANCE: u32 = 1000;
 
-#[tactic(auto, unfolding(crate::specs::Checks::check1, crate::specs::Checks::maxRows))]
+#[tactic(auto, unfolding(crate::specs::Checks::check1, crate::specs::Checks::max_rows))]
 pub fn check_rows(n: usize) -> u32
     ensures { result ≡ Checks.check1 n }
 {
@@ -25,7 +25,7 @@ pub fn check_rows(n: usize) -> u32
     }
 }
 
-#[tactic(auto, unfolding(crate::specs::Checks::check2, crate::specs::Checks::maxRadii))]
+#[tactic(auto, unfolding(crate::specs::Checks::check2, crate::specs::Checks::max_radii))]
 pub fn check_radii(m: usize) -> u32
     ensures { result ≡ Checks.check2 m }
 {
@@ -58,7 +58,7 @@ pub fn check_u(u: f32) -> u32
     if 0.0 <= u && u <= 1.0 { 0 } else { 9 }
 }
 
-#[tactic(auto, unfolding(crate::specs::Checks::check10, crate::specs::Checks::maxAllowance))]
+#[tactic(auto, unfolding(crate::specs::Checks::check10, crate::specs::Checks::max_allowance))]
 pub fn check_allowance(allowance: u32) -> u32
     ensures { result ≡ Checks.check10 allowance }
 {

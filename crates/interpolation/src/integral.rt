@@ -1,14 +1,14 @@
 // `integrate_catmull_rom` of interpolation.rs.
 ghost use Rattle.std.specs.Prelude.{◌≡◌, ◌+◌, ◌≤◌, ◌<◌, length, get_or};
 ghost use Rattle.std.specs.Float.{nan};
-ghost use Rattle.interpolation.specs.Slope.{slopeBefore, slopeAfter};
-ghost use Rattle.interpolation.specs.Integral.{segmentIntegral, integrateCatmullRom, cdfOf};
+ghost use Rattle.interpolation.specs.Slope.{slope_before, slope_after};
+ghost use Rattle.interpolation.specs.Integral.{segment_integral, integrate_catmull_rom, cdf_of};
 
 // The slope at the start of the segment i, times its width.
-#[tactic(auto, unfolding(crate::specs::Slope::slopeBefore, crate::specs::Slope::width))]
+#[tactic(auto, unfolding(crate::specs::Slope::slope_before, crate::specs::Slope::width))]
 fn slope_before(x: &[f32], values: &[f32], i: usize) -> f32
     requires { (i + 1 < length x.now) × (length values.now ≡ length x.now) }
-    ensures { result ≡ slopeBefore x.now (λ k. get_or values.now k nan) i }
+    ensures { result ≡ slope_before x.now (λ k. get_or values.now k nan) i }
 {
     let f1 = values[i + 1];
     if i > 0 {
@@ -20,10 +20,10 @@ fn slope_before(x: &[f32], values: &[f32], i: usize) -> f32
 }
 
 // The slope at its end, times its width.
-#[tactic(auto, unfolding(crate::specs::Slope::slopeAfter, crate::specs::Slope::width))]
+#[tactic(auto, unfolding(crate::specs::Slope::slope_after, crate::specs::Slope::width))]
 fn slope_after(x: &[f32], values: &[f32], i: usize) -> f32
     requires { (i + 1 < length x.now) × (length values.now ≡ length x.now) }
-    ensures { result ≡ slopeAfter x.now (λ k. get_or values.now k nan) i }
+    ensures { result ≡ slope_after x.now (λ k. get_or values.now k nan) i }
 {
     let f0 = values[i];
     if i + 2 < x.len() {
@@ -35,10 +35,10 @@ fn slope_after(x: &[f32], values: &[f32], i: usize) -> f32
 }
 
 // The integral over the segment i.
-#[tactic(auto, unfolding(crate::specs::Integral::segmentIntegral, crate::specs::Slope::width))]
+#[tactic(auto, unfolding(crate::specs::Integral::segment_integral, crate::specs::Slope::width))]
 fn segment_integral(x: &[f32], values: &[f32], i: usize) -> f32
     requires { (i + 1 < length x.now) × (length values.now ≡ length x.now) }
-    ensures { result ≡ segmentIntegral x.now values.now i }
+    ensures { result ≡ segment_integral x.now values.now i }
 {
     let width = x[i + 1] - x[i];
     let d0 = slope_before(x, values, i);
@@ -50,7 +50,7 @@ fn segment_integral(x: &[f32], values: &[f32], i: usize) -> f32
 pub fn integrate_catmull_rom(x: &[f32], values: &[f32], cdf: &mut [f32]) -> f32
     requires some { 1 ≤ length x.now }
     requires lengths { (length values.now ≡ length x.now) × (length cdf.old ≡ length x.now) }
-    ensures { (result ≡ integrateCatmullRom x.now values.now) × (cdf.new ≡ cdfOf x.now values.now) }
+    ensures { (result ≡ integrate_catmull_rom x.now values.now) × (cdf.new ≡ cdf_of x.now values.now) }
 {
     let n = x.len() - 1;
     let mut sum = 0.0;

@@ -1,7 +1,7 @@
 // Check 6 of document 01.
 ghost use Rattle.std.specs.Prelude.{◌≡◌, ◌+◌, ◌≤◌, length};
 ghost use Rattle.std.specs.List.{count_by, range_with_len};
-ghost use Rattle.interpolation.specs.Nodes.{finite, rises, increasing, nodesOk};
+ghost use Rattle.interpolation.specs.Nodes.{finite, rises, increasing, nodes_ok};
 
 use std::simd::prelude::*;
 
@@ -51,7 +51,7 @@ fn is_increasing(nodes: &[f32]) -> bool
 #[tactic(auto, using(crate::proofs::Finite::checking))]
 pub fn nodes_ok(nodes: &[f32]) -> bool
     requires { 2 ≤ length nodes.now }
-    ensures { result ≡ nodesOk nodes.now }
+    ensures { result ≡ nodes_ok nodes.now }
 {
     if is_increasing(nodes) {
         is_finite(nodes[nodes.len() - 1] - nodes[0])

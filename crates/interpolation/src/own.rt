@@ -1,6 +1,6 @@
 // Weights, integration and 2D sampling on a caller's own lists. Nothing is asked of the lists or
 // the numbers: a call that document 01 refuses gives the refusal's number and writes nothing.
-#![tactic(auto, using(crate::proofs::Refusals::numbering), unfolding(crate::specs::Own::weightsNumber, crate::specs::Own::weightsTold, crate::specs::Own::weights, crate::specs::Own::weightsValue, crate::specs::Own::integralNumber, crate::specs::Own::integralTold, crate::specs::Own::integral, crate::specs::Own::cdfAfter, crate::specs::Own::sizesNumber, crate::specs::Own::sampleNumber, crate::specs::Own::sampleTold, crate::specs::Own::sample2d, crate::specs::Checks::maxRows))]
+#![tactic(auto, using(crate::proofs::Refusals::numbering), unfolding(crate::specs::Own::weights_number, crate::specs::Own::weights_told, crate::specs::Own::weights, crate::specs::Own::weights_value, crate::specs::Own::integral_number, crate::specs::Own::integral_told, crate::specs::Own::integral, crate::specs::Own::cdf_after, crate::specs::Own::sizes_number, crate::specs::Own::sample_number, crate::specs::Own::sample_told, crate::specs::Own::sample2d, crate::specs::Checks::max_rows))]
 
 ghost use Rattle.std.specs.Prelude.{◌≡◌};
 ghost use Rattle.interpolation.specs.Own as Own;
@@ -28,14 +28,14 @@ pub enum IntegralAnswer {
 }
 
 fn weights_number(nodes: &[f32]) -> u32
-    ensures { result ≡ Own.weightsNumber nodes.now }
+    ensures { result ≡ Own.weights_number nodes.now }
 {
     first_of!(check_rows(nodes.len()), check_nodes(nodes))
 }
 
 // The weights of x among the nodes. Refusals: 1, 6.
 pub fn weights(nodes: &[f32], x: f32) -> WeightsAnswer
-    ensures { Own.weightsTold result ≡ Own.weights nodes.now x }
+    ensures { Own.weights_told result ≡ Own.weights nodes.now x }
 {
     let number = weights_number(nodes);
     if number > 0 {
@@ -48,7 +48,7 @@ pub fn weights(nodes: &[f32], x: f32) -> WeightsAnswer
 }
 
 fn integral_number(x: &[f32], values: &[f32], cdf: usize) -> u32
-    ensures { result ≡ Own.integralNumber x.now values.now cdf }
+    ensures { result ≡ Own.integral_number x.now values.now cdf }
 {
     first_of!(
         check_rows(x.len()),
@@ -61,7 +61,7 @@ fn integral_number(x: &[f32], values: &[f32], cdf: usize) -> u32
 // The integral of the spline through the values at the nodes x: its running sum up to each node
 // goes to `cdf`. Refusals: 1, 5, 6.
 pub fn integrate(x: &[f32], values: &[f32], cdf: &mut [f32]) -> IntegralAnswer
-    ensures { (Own.integralTold result ≡ Own.integral x.now values.now cdf.old) × (cdf.new ≡ Own.cdfAfter x.now values.now cdf.old) }
+    ensures { (Own.integral_told result ≡ Own.integral x.now values.now cdf.old) × (cdf.new ≡ Own.cdf_after x.now values.now cdf.old) }
 {
     let number = integral_number(x, values, cdf.len());
     if number > 0 {
@@ -72,7 +72,7 @@ pub fn integrate(x: &[f32], values: &[f32], cdf: &mut [f32]) -> IntegralAnswer
 
 // The product is worked out once both sizes are in range, so it does not overflow.
 fn sizes_number(n: usize, m: usize, values: usize, cdf: usize) -> u32
-    ensures { result ≡ Own.sizesNumber n m values cdf }
+    ensures { result ≡ Own.sizes_number n m values cdf }
 {
     first_of!(
         check_rows(n),
@@ -90,7 +90,7 @@ fn sample_number(
     u: f32,
     allowance: u32,
 ) -> u32
-    ensures { result ≡ Own.sampleNumber nodes1.now nodes2.now values.now cdf.now u allowance }
+    ensures { result ≡ Own.sample_number nodes1.now nodes2.now values.now cdf.now u allowance }
 {
     first_of!(
         sizes_number(nodes1.len(), nodes2.len(), values.len(), cdf.len()),
@@ -113,7 +113,7 @@ pub fn sample_2d(
     u: f32,
     allowance: u32,
 ) -> Sample
-    ensures { Own.sampleTold result ≡ Own.sample2d nodes1.now nodes2.now values.now cdf.now alpha u allowance }
+    ensures { Own.sample_told result ≡ Own.sample2d nodes1.now nodes2.now values.now cdf.now alpha u allowance }
 {
     let number = sample_number(nodes1, nodes2, values, cdf, u, allowance);
     if number > 0 {

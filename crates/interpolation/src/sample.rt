@@ -1,7 +1,7 @@
 // `sample_catmull_rom_2d` of interpolation.rs.
 ghost use Rattle.std.specs.Prelude.{true, ◌≡◌, ◌+◌, ◌-◌, ◌*◌, ◌≤◌, ◌<◌, length};
-ghost use Rattle.interpolation.specs.Nodes.{nodesOk};
-ghost use Rattle.interpolation.specs.Weights.{offsetOf};
+ghost use Rattle.interpolation.specs.Nodes.{nodes_ok};
+ghost use Rattle.interpolation.specs.Weights.{offset_of};
 ghost use Rattle.interpolation.specs.Slope as Slope;
 ghost use Rattle.interpolation.specs.Blend.{InTable, interpolate};
 ghost use Rattle.interpolation.specs.Sample as Spec;
@@ -23,7 +23,7 @@ pub enum Sample {
 
 // The slope at the start of the segment k, times its width, where f0 and f1 are the blended values
 // at its ends.
-#[tactic(auto, unfolding(crate::specs::Slope::width, crate::specs::Slope::slopeBefore))]
+#[tactic(auto, unfolding(crate::specs::Slope::width, crate::specs::Slope::slope_before))]
 fn slope_before(
     nodes: &[f32],
     values: &[f32],
@@ -35,9 +35,9 @@ fn slope_before(
 ) -> f32
     requires segment { (k + 1 < length nodes.now) × (i ≤ 0x7fff_ffff) }
     requires in_table { InTable values.now (length nodes.now) i four }
-    requires first { f0 ≡ interpolate values.now (length nodes.now) (offsetOf i) four k }
-    requires second { f1 ≡ interpolate values.now (length nodes.now) (offsetOf i) four (k + 1) }
-    ensures { result ≡ Slope.slopeBefore nodes.now (interpolate values.now (length nodes.now) (offsetOf i) four) k }
+    requires first { f0 ≡ interpolate values.now (length nodes.now) (offset_of i) four k }
+    requires second { f1 ≡ interpolate values.now (length nodes.now) (offset_of i) four (k + 1) }
+    ensures { result ≡ Slope.slope_before nodes.now (interpolate values.now (length nodes.now) (offset_of i) four) k }
 {
     if k > 0 {
         let before = blend(values, nodes.len(), i, four, k - 1);
@@ -49,7 +49,7 @@ fn slope_before(
 }
 
 // The slope at its end, times its width.
-#[tactic(auto, unfolding(crate::specs::Slope::width, crate::specs::Slope::slopeAfter))]
+#[tactic(auto, unfolding(crate::specs::Slope::width, crate::specs::Slope::slope_after))]
 fn slope_after(
     nodes: &[f32],
     values: &[f32],
@@ -61,9 +61,9 @@ fn slope_after(
 ) -> f32
     requires segment { (k + 1 < length nodes.now) × (i ≤ 0x7fff_ffff) }
     requires in_table { InTable values.now (length nodes.now) i four }
-    requires first { f0 ≡ interpolate values.now (length nodes.now) (offsetOf i) four k }
-    requires second { f1 ≡ interpolate values.now (length nodes.now) (offsetOf i) four (k + 1) }
-    ensures { result ≡ Slope.slopeAfter nodes.now (interpolate values.now (length nodes.now) (offsetOf i) four) k }
+    requires first { f0 ≡ interpolate values.now (length nodes.now) (offset_of i) four k }
+    requires second { f1 ≡ interpolate values.now (length nodes.now) (offset_of i) four (k + 1) }
+    ensures { result ≡ Slope.slope_after nodes.now (interpolate values.now (length nodes.now) (offset_of i) four) k }
 {
     if k + 2 < nodes.len() {
         let after = blend(values, nodes.len(), i, four, k + 2);
@@ -75,7 +75,7 @@ fn slope_after(
 }
 
 // The segment k of the blended values, with u as the target of the whole integral.
-#[tactic(auto, unfolding(crate::specs::Slope::width, crate::specs::Sample::segmentAt))]
+#[tactic(auto, unfolding(crate::specs::Slope::width, crate::specs::Sample::segment_at))]
 fn segment_at(
     nodes: &[f32],
     values: &[f32],
@@ -88,7 +88,7 @@ fn segment_at(
     requires segment { (k + 1 < length nodes.now) × (i ≤ 0x7fff_ffff) }
     requires in_table { InTable values.now (length nodes.now) i four }
     requires cdf_in_table { InTable cdf.now (length nodes.now) i four }
-    ensures { result ≡ Spec.segmentAt nodes.now values.now cdf.now (offsetOf i) four u k }
+    ensures { result ≡ Spec.segment_at nodes.now values.now cdf.now (offset_of i) four u k }
 {
     let m = nodes.len();
     let f0 = blend(values, m, i, four, k);
@@ -106,7 +106,7 @@ fn segment_at(
 }
 
 // The draw from the rows that the weights in the interval i blend.
-#[tactic(auto, using(crate::proofs::Rows::reading), unfolding(crate::specs::Slope::width, crate::specs::Sample::drawFrom, crate::specs::Sample::drawn))]
+#[tactic(auto, using(crate::proofs::Rows::reading), unfolding(crate::specs::Slope::width, crate::specs::Sample::draw_from, crate::specs::Sample::drawn))]
 pub fn draw(
     nodes: &[f32],
     values: &[f32],
@@ -119,7 +119,7 @@ pub fn draw(
     requires sizes { (2 ≤ length nodes.now) × (i ≤ 0x7fff_ffff) }
     requires in_table { InTable values.now (length nodes.now) i four }
     requires cdf_in_table { InTable cdf.now (length nodes.now) i four }
-    ensures { result ≡ Spec.drawFrom nodes.now values.now cdf.now (At (offsetOf i) four) u allowance }
+    ensures { result ≡ Spec.draw_from nodes.now values.now cdf.now (At (offset_of i) four) u allowance }
 {
     let m = nodes.len();
     let maximum = blend(cdf, m, i, four, m - 1);
@@ -136,7 +136,7 @@ pub fn draw(
 }
 
 // A draw from the table of values, whose integrals are in `cdf`: alpha picks the rows, u the place.
-#[tactic(auto, using(crate::proofs::Rows::reading), unfolding(crate::specs::Sample::sampleCatmullRom2d, crate::specs::Weights::catmullRomWeights, crate::specs::Sample::drawFrom))]
+#[tactic(auto, using(crate::proofs::Rows::reading), unfolding(crate::specs::Sample::sample_catmull_rom_2d, crate::specs::Weights::catmull_rom_weights, crate::specs::Sample::draw_from))]
 pub fn sample_catmull_rom_2d(
     nodes1: &[f32],
     nodes2: &[f32],
@@ -147,10 +147,10 @@ pub fn sample_catmull_rom_2d(
     allowance: u32,
 ) -> Sample
     requires sizes { (2 ≤ length nodes1.now) × (length nodes1.now ≤ 0x8000_0000) × (2 ≤ length nodes2.now) }
-    requires accepted { nodesOk nodes1.now ≡ true }
+    requires accepted { nodes_ok nodes1.now ≡ true }
     requires values_length { length values.now ≡ length nodes1.now * length nodes2.now }
     requires cdf_length { length cdf.now ≡ length nodes1.now * length nodes2.now }
-    ensures { result ≡ Spec.sampleCatmullRom2d nodes1.now nodes2.now values.now cdf.now alpha u allowance }
+    ensures { result ≡ Spec.sample_catmull_rom_2d nodes1.now nodes2.now values.now cdf.now alpha u allowance }
 {
     if crate::weights::is_within(nodes1, alpha) {
         let i = find_interval(nodes1, alpha);

@@ -31,9 +31,9 @@ pub enum Solved {
 }
 
 // t, or the middle of a and b where t does not lie between them.
-#[tactic(auto, unfolding(crate::specs::Solve::boundedBy))]
+#[tactic(auto, unfolding(crate::specs::Solve::bounded_by))]
 fn bounded(t: f32, a: f32, b: f32) -> f32
-    ensures { result ≡ Solve.boundedBy t a b }
+    ensures { result ≡ Solve.bounded_by t a b }
 {
     if t >= a {
         if t <= b {
@@ -45,9 +45,9 @@ fn bounded(t: f32, a: f32, b: f32) -> f32
 
 impl Segment {
     // The integral up to t.
-    #[tactic(auto, unfolding(crate::specs::Solve::integralAt))]
+    #[tactic(auto, unfolding(crate::specs::Solve::integral_at))]
     fn integral_at(self, t: f32) -> f32
-        ensures { result ≡ Solve.integralAt self t }
+        ensures { result ≡ Solve.integral_at self t }
     {
         let f0 = self.f0;
         let f1 = self.f1;
@@ -60,9 +60,9 @@ impl Segment {
     }
 
     // The value at t.
-    #[tactic(auto, unfolding(crate::specs::Solve::valueAt))]
+    #[tactic(auto, unfolding(crate::specs::Solve::value_at))]
     fn value_at(self, t: f32) -> f32
-        ensures { result ≡ Solve.valueAt self t }
+        ensures { result ≡ Solve.value_at self t }
     {
         let f0 = self.f0;
         let f1 = self.f1;
@@ -72,9 +72,9 @@ impl Segment {
     }
 
     // One round.
-    #[tactic(auto, unfolding(crate::specs::Solve::roundOf))]
+    #[tactic(auto, unfolding(crate::specs::Solve::round_of))]
     fn round(self, from: f32, a: f32, b: f32) -> Round
-        ensures { result ≡ Solve.roundOf self from a b }
+        ensures { result ≡ Solve.round_of self from a b }
     {
         let t = bounded(from, a, b);
         let d = self.integral_at(t) - self.u;
@@ -103,9 +103,9 @@ impl Segment {
     }
 
     // The first t, by sampling a linear interpolant.
-    #[tactic(auto, unfolding(crate::specs::Solve::firstGuess))]
+    #[tactic(auto, unfolding(crate::specs::Solve::first_guess))]
     fn first_guess(self) -> f32
-        ensures { result ≡ Solve.firstGuess self }
+        ensures { result ≡ Solve.first_guess self }
     {
         let f0 = self.f0;
         let f1 = self.f1;
@@ -117,7 +117,7 @@ impl Segment {
     }
 
     // Rounds from the first guess on, until one is the last or the allowance is used up.
-    #[tactic(auto, unfolding(crate::specs::Solve::solveFrom, crate::specs::Solve::solve))]
+    #[tactic(auto, unfolding(crate::specs::Solve::solve_from, crate::specs::Solve::solve))]
     pub fn solve(self, allowance: u32) -> Solved
         ensures { result ≡ Solve.solve self allowance }
     {

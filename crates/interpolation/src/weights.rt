@@ -1,7 +1,7 @@
 // `catmull_rom_weights` of interpolation.rs.
 ghost use Rattle.std.specs.Prelude.{true, ◌≡◌, ◌+◌, ◌≤◌, ◌<◌, length};
-ghost use Rattle.interpolation.specs.Nodes.{nodesOk};
-ghost use Rattle.interpolation.specs.Weights.{catmullRomWeights, fourAt, offsetOf, within};
+ghost use Rattle.interpolation.specs.Nodes.{nodes_ok};
+ghost use Rattle.interpolation.specs.Weights.{catmull_rom_weights, four_at, offset_of, within};
 
 use crate::interval::find_interval;
 
@@ -23,10 +23,10 @@ pub enum Weights {
 }
 
 // The weights in the interval i.
-#[tactic(auto, unfolding(crate::specs::Weights::fourAt, crate::specs::Weights::firstPart, crate::specs::Weights::lastPart))]
+#[tactic(auto, unfolding(crate::specs::Weights::four_at, crate::specs::Weights::first_part, crate::specs::Weights::last_part))]
 pub fn four_at(nodes: &[f32], x: f32, i: usize) -> Four
     requires { i + 1 < length nodes.now }
-    ensures { result ≡ fourAt nodes.now x i }
+    ensures { result ≡ four_at nodes.now x i }
 {
     let x0 = nodes[i];
     let x1 = nodes[i + 1];
@@ -72,20 +72,20 @@ pub fn is_within(nodes: &[f32], x: f32) -> bool
 }
 
 // i - 1, as a signed number.
-#[tactic(auto, unfolding(crate::specs::Weights::offsetOf))]
+#[tactic(auto, unfolding(crate::specs::Weights::offset_of))]
 fn offset_of(i: usize) -> i32
     requires { i ≤ 0x7fff_ffff }
-    ensures { result ≡ offsetOf i }
+    ensures { result ≡ offset_of i }
 {
     if i == 0 { -1 } else { (i - 1) as i32 }
 }
 
 // The offset and the weights at x. An offset is an `i32`, so the nodes are at most 2^31.
-#[tactic(auto, using(crate::proofs::Bisection::bounding), unfolding(crate::specs::Weights::catmullRomWeights))]
+#[tactic(auto, using(crate::proofs::Bisection::bounding), unfolding(crate::specs::Weights::catmull_rom_weights))]
 pub fn catmull_rom_weights(nodes: &[f32], x: f32) -> Weights
     requires sizes { (2 ≤ length nodes.now) × (length nodes.now ≤ 0x8000_0000) }
-    requires accepted { nodesOk nodes.now ≡ true }
-    ensures { result ≡ catmullRomWeights nodes.now x }
+    requires accepted { nodes_ok nodes.now ≡ true }
+    ensures { result ≡ catmull_rom_weights nodes.now x }
 {
     if is_within(nodes, x) {
         let i = find_interval(nodes, x);

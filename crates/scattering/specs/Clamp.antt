@@ -2,5 +2,5 @@
 use Rattle.std.specs.Prelude.{cond, Float}
 use Rattle.std.specs.Float.Ieee.{lt}
 
-unfoldable pub clampT : Float → Float → Float → Float
-clampT val low high = cond (lt val low) low (cond (lt high val) high val)
+unfoldable pub clamp_t : Float → Float → Float → Float
+clamp_t val low high = cond (lt val low) low (cond (lt high val) high val)

@@ -3,10 +3,10 @@ use Rattle.std.specs.Prelude.{ℕ, [], ◌∷◌, Float}
 use Rattle.elementary.specs.Notation.{◌⊖◌, ◌⊗◌, ◌⊘◌}
 use Rattle.elementary.specs.Constants.{pi}
 use Rattle.answers.specs.Answer.{Answer, refusal, value, answered}
-use Rattle.answers.specs.Checks.{firstOf}
+use Rattle.answers.specs.Checks.{first_of}
 use Rattle.scattering.specs.Literals.{one, two}
-use Rattle.scattering.specs.Fresnel.{frDielectric}
-use Rattle.scattering.specs.Moments.{fresnelMoment1}
+use Rattle.scattering.specs.Fresnel.{fr_dielectric}
+use Rattle.scattering.specs.Moments.{fresnel_moment1}
 use Rattle.scattering.specs.Spectrum.{uniform}
 use Rattle.scattering.specs.Checks.{check4, check9}
 use Rattle.scattering.specs.declared.spectrum.Spectrum.{Spectrum}
@@ -14,20 +14,20 @@ use Rattle.scattering.specs.declared.exitance.SwAnswer.{SwAnswer}
 use Rattle.scattering.specs.declared.exitance.SwAnswer.TheVariants.{Value, Refused}
 
 -- the Rust's formula
-unfoldable pub swValue : Float → Float → Float
-swValue eta cosine =
-    let c = one ⊖ two ⊗ fresnelMoment1 (one ⊘ eta) in
-    (one ⊖ frDielectric cosine one eta) ⊘ (c ⊗ pi)
+unfoldable pub sw_value : Float → Float → Float
+sw_value eta cosine =
+    let c = one ⊖ two ⊗ fresnel_moment1 (one ⊘ eta) in
+    (one ⊖ fr_dielectric cosine one eta) ⊘ (c ⊗ pi)
 
-abbrev pub spectrumValue : Spectrum → Answer
-spectrumValue s = value (s.r ∷ s.g ∷ s.b ∷ []) []
+abbrev pub spectrum_value : Spectrum → Answer
+spectrum_value s = value (s.r ∷ s.g ∷ s.b ∷ []) []
 
-unfoldable pub swTold : SwAnswer → Answer
-swTold (Value s) = spectrumValue s
-swTold (Refused number) = refusal number
+unfoldable pub sw_told : SwAnswer → Answer
+sw_told (Value s) = spectrum_value s
+sw_told (Refused number) = refusal number
 
-unfoldable pub swNumber : Float → Float → ℕ
-swNumber eta cosine = firstOf (check4 eta ∷ check9 cosine ∷ [])
+unfoldable pub sw_number : Float → Float → ℕ
+sw_number eta cosine = first_of (check4 eta ∷ check9 cosine ∷ [])
 
 unfoldable pub sw : Float → Float → Answer
-sw eta cosine = answered (swNumber eta cosine) (spectrumValue (uniform (swValue eta cosine)))
+sw eta cosine = answered (sw_number eta cosine) (spectrum_value (uniform (sw_value eta cosine)))

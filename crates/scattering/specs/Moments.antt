@@ -4,8 +4,8 @@ use Rattle.std.specs.Float.Ieee.{lt, neg}
 use Rattle.elementary.specs.Notation.{◌⊕◌, ◌⊖◌, ◌⊗◌, ◌⊘◌}
 use Rattle.scattering.specs.Literals.{one, «0·45966», «1·73965», «3·37668», «3·904945», «2·49277», «0·68441», «4·61686», «11·1136», «10·4646», «5·11455», «1·27198», «0·12746», «0·27614», «0·87350», «1·12077», «0·65095», «0·07883», «0·04860», «547·033», «45·3087», «218·725», «458·843», «404·557», «189·519», «54·9327», «9·00603», «0·63942»}
 
-unfoldable pub fresnelMoment1 : Float → Float
-fresnelMoment1 eta =
+unfoldable pub fresnel_moment1 : Float → Float
+fresnel_moment1 eta =
     let eta2 = eta ⊗ eta in
     let eta3 = eta2 ⊗ eta in
     let eta4 = eta3 ⊗ eta in
@@ -15,16 +15,16 @@ fresnelMoment1 eta =
     («0·45966» ⊖ «1·73965» ⊗ eta ⊕ «3·37668» ⊗ eta2 ⊖ «3·904945» ⊗ eta3 ⊕ «2·49277» ⊗ eta4 ⊖ «0·68441» ⊗ eta5)
     (neg «4·61686» ⊕ «11·1136» ⊗ eta ⊖ «10·4646» ⊗ eta2 ⊕ «5·11455» ⊗ eta3 ⊖ «1·27198» ⊗ eta4 ⊕ «0·12746» ⊗ eta5)
 
-unfoldable pub fresnelMoment2 : Float → Float
-fresnelMoment2 eta =
+unfoldable pub fresnel_moment2 : Float → Float
+fresnel_moment2 eta =
     let eta2 = eta ⊗ eta in
     let eta3 = eta2 ⊗ eta in
     let eta4 = eta3 ⊗ eta in
     let eta5 = eta4 ⊗ eta in
-    let rEta = one ⊘ eta in
-    let rEta2 = rEta ⊗ rEta in
-    let rEta3 = rEta2 ⊗ rEta in
+    let r_eta = one ⊘ eta in
+    let r_eta2 = r_eta ⊗ r_eta in
+    let r_eta3 = r_eta2 ⊗ r_eta in
     cond
     (lt eta one)
     («0·27614» ⊖ «0·87350» ⊗ eta ⊕ «1·12077» ⊗ eta2 ⊖ «0·65095» ⊗ eta3 ⊕ «0·07883» ⊗ eta4 ⊕ «0·04860» ⊗ eta5)
-    (neg «547·033» ⊕ «45·3087» ⊗ rEta3 ⊖ «218·725» ⊗ rEta2 ⊕ «458·843» ⊗ rEta ⊕ «404·557» ⊗ eta ⊖ «189·519» ⊗ eta2 ⊕ «54·9327» ⊗ eta3 ⊖ «9·00603» ⊗ eta4 ⊕ «0·63942» ⊗ eta5)
+    (neg «547·033» ⊕ «45·3087» ⊗ r_eta3 ⊖ «218·725» ⊗ r_eta2 ⊕ «458·843» ⊗ r_eta ⊕ «404·557» ⊗ eta ⊖ «189·519» ⊗ eta2 ⊕ «54·9327» ⊗ eta3 ⊖ «9·00603» ⊗ eta4 ⊕ «0·63942» ⊗ eta5)

@@ -3,22 +3,22 @@ use Rattle.std.specs.Prelude.{ℕ, List, pos, Float}
 use Rattle.std.specs.Float.{binary32}
 use Rattle.std.specs.Float.Ieee.{of_int}
 use Rattle.elementary.specs.Notation.{◌⊕◌, ◌⊖◌, ◌⊗◌, ◌⊘◌}
-use Rattle.elementary.specs.Lists.{listOf}
+use Rattle.elementary.specs.Lists.{list_of}
 use Rattle.elementary.specs.Root.{sqrt}
 use Rattle.elementary.specs.Logarithm.{ln}
 use Rattle.scattering.specs.Literals.{half, one, hundred}
 
 -- `n_samples`
-unfoldable pub nSamples : ℕ
-nSamples = 100
+unfoldable pub n_samples : ℕ
+n_samples = 100
 
 -- ln(1 - (i + 0.5) / n_samples)
-unfoldable pub sampleLn : ℕ → Float
-sampleLn i = ln (one ⊖ (of_int binary32 (pos i) ⊕ half) ⊘ hundred)
+unfoldable pub sample_ln : ℕ → Float
+sample_ln i = ln (one ⊖ (of_int binary32 (pos i) ⊕ half) ⊘ hundred)
 
 -- the same for every sample
-unfoldable pub sampleLogs : List Float
-sampleLogs = listOf nSamples sampleLn
+unfoldable pub sample_logs : List Float
+sample_logs = list_of n_samples sample_ln
 
 -- the root of r * r + z * z
 unfoldable pub distance : Float → Float → Float

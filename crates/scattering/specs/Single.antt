@@ -2,30 +2,30 @@
 use Rattle.std.specs.Prelude.{ℕ, Float}
 use Rattle.std.specs.Float.Ieee.{neg}
 use Rattle.elementary.specs.Notation.{◌⊕◌, ◌⊖◌, ◌⊗◌, ◌⊘◌}
-use Rattle.elementary.specs.Lists.{sumTo}
+use Rattle.elementary.specs.Lists.{sum_to}
 use Rattle.elementary.specs.Sign.{abs}
 use Rattle.elementary.specs.Root.{sqrt}
 use Rattle.elementary.specs.Exponential.{exp}
 use Rattle.scattering.specs.Literals.{one, hundred}
-use Rattle.scattering.specs.Fresnel.{frDielectric}
-use Rattle.scattering.specs.Phase.{phaseHg}
-use Rattle.scattering.specs.Samples.{nSamples, sampleLn, distance}
+use Rattle.scattering.specs.Fresnel.{fr_dielectric}
+use Rattle.scattering.specs.Phase.{phase_hg}
+use Rattle.scattering.specs.Samples.{n_samples, sample_ln, distance}
 
 -- what a sample adds to the sum, by the exponential, the phase function and the Fresnel term
-unfoldable pub ssTerm : Float → Float → Float → Float → Float → Float → Float
-ssTerm rho d cosThetaO attenuation phase fresnel = rho ⊗ attenuation ⊘ (d ⊗ d) ⊗ phase ⊗ (one ⊖ fresnel) ⊗ abs cosThetaO
+unfoldable pub ss_term : Float → Float → Float → Float → Float → Float → Float
+ss_term rho d cos_theta_o attenuation phase fresnel = rho ⊗ attenuation ⊘ (d ⊗ d) ⊗ phase ⊗ (one ⊖ fresnel) ⊗ abs cos_theta_o
 
 -- what the sample i adds
-unfoldable pub ssAddend : Float → Float → Float → Float → Float → Float → ℕ → Float
-ssAddend sigmaT rho tCrit g eta r i =
-    let ti = tCrit ⊖ sampleLn i ⊘ sigmaT in
+unfoldable pub ss_addend : Float → Float → Float → Float → Float → Float → ℕ → Float
+ss_addend sigma_t rho t_crit g eta r i =
+    let ti = t_crit ⊖ sample_ln i ⊘ sigma_t in
     let d = distance r ti in
-    let cosThetaO = ti ⊘ d in
-    ssTerm rho d cosThetaO (exp (neg sigmaT ⊗ (d ⊕ tCrit))) (phaseHg cosThetaO g) (frDielectric (neg cosThetaO) one eta)
+    let cos_theta_o = ti ⊘ d in
+    ss_term rho d cos_theta_o (exp (neg sigma_t ⊗ (d ⊕ t_crit))) (phase_hg cos_theta_o g) (fr_dielectric (neg cos_theta_o) one eta)
 
-unfoldable pub beamDiffusionSs : Float → Float → Float → Float → Float → Float
-beamDiffusionSs sigmaS sigmaA g eta r =
-    let sigmaT = sigmaA ⊕ sigmaS in
-    let rho = sigmaS ⊘ sigmaT in
-    let tCrit = r ⊗ sqrt (eta ⊗ eta ⊖ one) in
-    sumTo (ssAddend sigmaT rho tCrit g eta r) nSamples ⊘ hundred
+unfoldable pub beam_diffusion_ss : Float → Float → Float → Float → Float → Float
+beam_diffusion_ss sigma_s sigma_a g eta r =
+    let sigma_t = sigma_a ⊕ sigma_s in
+    let rho = sigma_s ⊘ sigma_t in
+    let t_crit = r ⊗ sqrt (eta ⊗ eta ⊖ one) in
+    sum_to (ss_addend sigma_t rho t_crit g eta r) n_samples ⊘ hundred

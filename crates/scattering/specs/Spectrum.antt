@@ -2,7 +2,7 @@
 use Rattle.std.specs.Prelude.{Bool, ◌||◌, Float}
 use Rattle.std.specs.Float.Ieee.{is_nan}
 use Rattle.elementary.specs.Notation.{◌⊕◌, ◌⊗◌, lit}
-use Rattle.scattering.specs.Clamp.{clampT}
+use Rattle.scattering.specs.Clamp.{clamp_t}
 use Rattle.scattering.specs.declared.spectrum.Spectrum.{Spectrum}
 use Rattle.scattering.specs.declared.spectrum.RGBEnum.{RGBEnum}
 use Rattle.scattering.specs.declared.spectrum.RGBEnum.TheVariants.{Red, Green, Blue}
@@ -32,7 +32,7 @@ times s t = rgb (s.r ⊗ t.r) (s.g ⊗ t.g) (s.b ⊗ t.b)
 
 -- `clamp` up to its assertion, which is `has_nans`
 unfoldable pub clamp : Spectrum → Float → Float → Spectrum
-clamp s low high = rgb (clampT s.r low high) (clampT s.g low high) (clampT s.b low high)
+clamp s low high = rgb (clamp_t s.r low high) (clamp_t s.g low high) (clamp_t s.b low high)
 
-unfoldable pub hasNans : Spectrum → Bool
-hasNans s = is_nan s.r || is_nan s.g || is_nan s.b
+unfoldable pub has_nans : Spectrum → Bool
+has_nans s = is_nan s.r || is_nan s.g || is_nan s.b

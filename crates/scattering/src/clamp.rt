@@ -1,12 +1,12 @@
 // `clamp_t` of pbrt.rs.
-#![tactic(auto, unfolding(crate::specs::Clamp::clampT))]
+#![tactic(auto, unfolding(crate::specs::Clamp::clamp_t))]
 
 ghost use Rattle.std.specs.Prelude.{◌≡◌};
 ghost use Rattle.scattering.specs.Clamp as Clamp;
 
 // The value, but at least `low` and at most `high`. A NaN stays one.
 pub fn clamp_t(val: f32, low: f32, high: f32) -> f32
-    ensures { result ≡ Clamp.clampT val low high }
+    ensures { result ≡ Clamp.clamp_t val low high }
 {
     if val < low {
         low

@@ -1,5 +1,5 @@
 // The offered call `sw`: how the light that leaves is spread over directions.
-#![tactic(auto, using(answers::proofs::Refusals::refusals), unfolding(crate::specs::Exitance::swNumber, crate::specs::Exitance::swValue, crate::specs::Exitance::swTold, crate::specs::Exitance::sw))]
+#![tactic(auto, using(answers::proofs::Refusals::refusals), unfolding(crate::specs::Exitance::sw_number, crate::specs::Exitance::sw_value, crate::specs::Exitance::sw_told, crate::specs::Exitance::sw))]
 
 ghost use Rattle.std.specs.Prelude.{◌≡◌};
 ghost use Rattle.scattering.specs.Exitance as Exitance;
@@ -18,7 +18,7 @@ pub enum SwAnswer {
 }
 
 fn sw_number(eta: f32, cosine: f32) -> u32
-    ensures { result ≡ Exitance.swNumber eta cosine }
+    ensures { result ≡ Exitance.sw_number eta cosine }
 {
     let range = check_eta(eta);
     if range > 0 {
@@ -28,7 +28,7 @@ fn sw_number(eta: f32, cosine: f32) -> u32
 }
 
 fn sw_value(eta: f32, cosine: f32) -> f32
-    ensures { result ≡ Exitance.swValue eta cosine }
+    ensures { result ≡ Exitance.sw_value eta cosine }
 {
     let c = 1.0 - 2.0 * fresnel_moment1(1.0 / eta);
     (1.0 - fr_dielectric(cosine, 1.0, eta)) / (c * PI)
@@ -37,7 +37,7 @@ fn sw_value(eta: f32, cosine: f32) -> f32
 // The Fresnel term at the cosine of a direction, for the index of refraction eta: three equal
 // values. Refusals: 4, 9.
 pub fn sw(eta: f32, cosine: f32) -> SwAnswer
-    ensures { Exitance.swTold result ≡ Exitance.sw eta cosine }
+    ensures { Exitance.sw_told result ≡ Exitance.sw eta cosine }
 {
     let number = sw_number(eta, cosine);
     if number > 0 {

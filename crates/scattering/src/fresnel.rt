@@ -1,9 +1,9 @@
 // The Fresnel reflectance of reflection.rs, at one cosine and at each of a list.
-#![tactic(auto, using(elementary::proofs::Mapped::filling), unfolding(crate::specs::Samples::nSamples, crate::specs::Fresnel::swapped, crate::specs::Fresnel::complement, crate::specs::Fresnel::sinThetaI, crate::specs::Fresnel::sinThetaT, crate::specs::Fresnel::cosThetaT, crate::specs::Fresnel::reflectance, crate::specs::Fresnel::reflected, crate::specs::Fresnel::frDielectric))]
+#![tactic(auto, using(elementary::proofs::Mapped::filling), unfolding(crate::specs::Samples::n_samples, crate::specs::Fresnel::swapped, crate::specs::Fresnel::complement, crate::specs::Fresnel::sin_theta_i, crate::specs::Fresnel::sin_theta_t, crate::specs::Fresnel::cos_theta_t, crate::specs::Fresnel::reflectance, crate::specs::Fresnel::reflected, crate::specs::Fresnel::fr_dielectric))]
 
 ghost use Rattle.std.specs.Prelude.{◌≡◌, map, Float, length};
 ghost use Rattle.scattering.specs.Fresnel as Fresnel;
-ghost use Rattle.scattering.specs.Samples.{nSamples};
+ghost use Rattle.scattering.specs.Samples.{n_samples};
 
 use crate::clamp::clamp_t;
 use crate::samples::N_SAMPLES;
@@ -47,15 +47,15 @@ fn complement(x: f32) -> f32
 
 // Snell's law.
 fn sin_theta_t(b: Boundary, sin_theta_i: f32) -> f32
-    requires { sin_theta_i ≡ Fresnel.sinThetaI b }
-    ensures { result ≡ Fresnel.sinThetaT b }
+    requires { sin_theta_i ≡ Fresnel.sin_theta_i b }
+    ensures { result ≡ Fresnel.sin_theta_t b }
 {
     b.eta_i / b.eta_t * sin_theta_i
 }
 
 // What is reflected, where not all is.
 fn reflectance(b: Boundary, cos_theta_t: f32) -> f32
-    requires { cos_theta_t ≡ Fresnel.cosThetaT b }
+    requires { cos_theta_t ≡ Fresnel.cos_theta_t b }
     ensures { result ≡ Fresnel.reflectance b }
 {
     let c = b.cos_theta_i;
@@ -68,7 +68,7 @@ fn reflectance(b: Boundary, cos_theta_t: f32) -> f32
 
 // How much of the light is reflected at the boundary between two dielectrics.
 pub fn fr_dielectric(cos_theta_i: f32, eta_i: f32, eta_t: f32) -> f32
-    ensures { result ≡ Fresnel.frDielectric cos_theta_i eta_i eta_t }
+    ensures { result ≡ Fresnel.fr_dielectric cos_theta_i eta_i eta_t }
 {
     let b = swapped(cos_theta_i, eta_i, eta_t);
     let sine = sin_theta_t(b, elementary::sqrt(complement(b.cos_theta_i)));
@@ -83,7 +83,7 @@ pub fn fr_dielectric(cos_theta_i: f32, eta_i: f32, eta_t: f32) -> f32
 // The sines of the angles.
 fn sines(cosines: &[f32], eta_i: f32, eta_t: f32, out: &mut [f32])
     requires { length out.old ≡ length cosines.now }
-    ensures { out.new ≡ map (λ (c : Float). Fresnel.sinThetaI (Fresnel.swapped c eta_i eta_t)) cosines.now }
+    ensures { out.new ≡ map (λ (c : Float). Fresnel.sin_theta_i (Fresnel.swapped c eta_i eta_t)) cosines.now }
 {
     let n = cosines.len();
     for i in 0..n {
@@ -95,9 +95,9 @@ fn sines(cosines: &[f32], eta_i: f32, eta_t: f32, out: &mut [f32])
 
 // The cosines on the other side.
 fn refracted(cosines: &[f32], eta_i: f32, eta_t: f32, sines: &[f32], out: &mut [f32])
-    requires sines { sines.now ≡ map (λ (c : Float). Fresnel.sinThetaI (Fresnel.swapped c eta_i eta_t)) cosines.now }
+    requires sines { sines.now ≡ map (λ (c : Float). Fresnel.sin_theta_i (Fresnel.swapped c eta_i eta_t)) cosines.now }
     requires lengths { length out.old ≡ length cosines.now }
-    ensures { out.new ≡ map (λ (c : Float). Fresnel.cosThetaT (Fresnel.swapped c eta_i eta_t)) cosines.now }
+    ensures { out.new ≡ map (λ (c : Float). Fresnel.cos_theta_t (Fresnel.swapped c eta_i eta_t)) cosines.now }
 {
     let n = cosines.len();
     for i in 0..n {
@@ -110,8 +110,8 @@ fn refracted(cosines: &[f32], eta_i: f32, eta_t: f32, sines: &[f32], out: &mut [
 // What is reflected, by the sine and the cosine on the other side. Both cases are worked out and the
 // test picks one, so that the compiler works at several at once.
 fn reflected(b: Boundary, sin_theta_i: f32, cos_theta_t: f32) -> f32
-    requires sine { sin_theta_i ≡ Fresnel.sinThetaI b }
-    requires cosine { cos_theta_t ≡ Fresnel.cosThetaT b }
+    requires sine { sin_theta_i ≡ Fresnel.sin_theta_i b }
+    requires cosine { cos_theta_t ≡ Fresnel.cos_theta_t b }
     ensures { result ≡ Fresnel.reflected b }
 {
     let sine = sin_theta_t(b, sin_theta_i);
@@ -120,7 +120,7 @@ fn reflected(b: Boundary, sin_theta_i: f32, cos_theta_t: f32) -> f32
 }
 
 // What is reflected, at each.
-#[tactic(auto, using(elementary::proofs::Mapped::filling), unfolding(crate::specs::Fresnel::frDielectric))]
+#[tactic(auto, using(elementary::proofs::Mapped::filling), unfolding(crate::specs::Fresnel::fr_dielectric))]
 fn reflected_each(
     cosines: &[f32],
     eta_i: f32,
@@ -129,10 +129,10 @@ fn reflected_each(
     refracted: &[f32],
     out: &mut [f32],
 )
-    requires sines { sines.now ≡ map (λ (c : Float). Fresnel.sinThetaI (Fresnel.swapped c eta_i eta_t)) cosines.now }
-    requires cosines_t { refracted.now ≡ map (λ (c : Float). Fresnel.cosThetaT (Fresnel.swapped c eta_i eta_t)) cosines.now }
+    requires sines { sines.now ≡ map (λ (c : Float). Fresnel.sin_theta_i (Fresnel.swapped c eta_i eta_t)) cosines.now }
+    requires cosines_t { refracted.now ≡ map (λ (c : Float). Fresnel.cos_theta_t (Fresnel.swapped c eta_i eta_t)) cosines.now }
     requires lengths { length out.old ≡ length cosines.now }
-    ensures { out.new ≡ map (λ (c : Float). Fresnel.frDielectric c eta_i eta_t) cosines.now }
+    ensures { out.new ≡ map (λ (c : Float). Fresnel.fr_dielectric c eta_i eta_t) cosines.now }
 {
     let n = cosines.len();
     for i in 0..n {
@@ -143,9 +143,9 @@ fn reflected_each(
 
 // `fr_dielectric` at the cosine of each sample.
 pub fn fresnels(cosines: &[f32], eta_i: f32, eta_t: f32, out: &mut [f32])
-    requires samples { length cosines.now ≡ nSamples }
-    requires room { length out.old ≡ nSamples }
-    ensures { out.new ≡ map (λ (c : Float). Fresnel.frDielectric c eta_i eta_t) cosines.now }
+    requires samples { length cosines.now ≡ n_samples }
+    requires room { length out.old ≡ n_samples }
+    ensures { out.new ≡ map (λ (c : Float). Fresnel.fr_dielectric c eta_i eta_t) cosines.now }
 {
     let mut sin_theta_i = [0.0f32; N_SAMPLES];
     sines(cosines, eta_i, eta_t, &mut sin_theta_i);

@@ -1,11 +1,11 @@
 // The moments of the Fresnel reflectance (bssrdf.rs), by polynomials.
-#![tactic(auto, unfolding(crate::specs::Moments::fresnelMoment1, crate::specs::Moments::fresnelMoment2))]
+#![tactic(auto, unfolding(crate::specs::Moments::fresnel_moment1, crate::specs::Moments::fresnel_moment2))]
 
 ghost use Rattle.std.specs.Prelude.{◌≡◌};
 ghost use Rattle.scattering.specs.Moments as Moments;
 
 pub fn fresnel_moment1(eta: f32) -> f32
-    ensures { result ≡ Moments.fresnelMoment1 eta }
+    ensures { result ≡ Moments.fresnel_moment1 eta }
 {
     let eta2 = eta * eta;
     let eta3 = eta2 * eta;
@@ -19,7 +19,7 @@ pub fn fresnel_moment1(eta: f32) -> f32
 }
 
 pub fn fresnel_moment2(eta: f32) -> f32
-    ensures { result ≡ Moments.fresnelMoment2 eta }
+    ensures { result ≡ Moments.fresnel_moment2 eta }
 {
     let eta2 = eta * eta;
     let eta3 = eta2 * eta;

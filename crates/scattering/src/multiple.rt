@@ -1,15 +1,15 @@
 // `beam_diffusion_ms` of bssrdf.rs: light that is scattered many times. As in `single`, each step of
 // the formula is done for all samples before the next.
-#![tactic(auto, using(elementary::proofs::Mapped::filling), unfolding(elementary::specs::Lists::sumTo, crate::specs::Samples::nSamples))]
+#![tactic(auto, using(elementary::proofs::Mapped::filling), unfolding(elementary::specs::Lists::sum_to, crate::specs::Samples::n_samples))]
 
 ghost use Rattle.std.specs.Prelude.{◌≡◌, map, ℕ, Float, length, get_or};
 ghost use Rattle.std.specs.Float.{nan};
 ghost use Rattle.std.specs.Float.Ieee.{neg};
 ghost use Rattle.elementary.specs.Notation.{◌⊕◌, ◌⊗◌, ◌⊘◌};
-ghost use Rattle.elementary.specs.Lists.{sumTo, listOf};
+ghost use Rattle.elementary.specs.Lists.{sum_to, list_of};
 ghost use Rattle.elementary.specs.Exponential.{exp};
 ghost use Rattle.scattering.specs.Literals.{two};
-ghost use Rattle.scattering.specs.Samples.{nSamples, sampleLogs};
+ghost use Rattle.scattering.specs.Samples.{n_samples, sample_logs};
 ghost use Rattle.scattering.specs.Multiple as Multiple;
 
 use crate::moments::{fresnel_moment1, fresnel_moment2};
@@ -31,7 +31,7 @@ pub struct Dipole {
     pub c_e: f32,
 }
 
-#[tactic(auto, unfolding(crate::specs::Multiple::dipole, crate::specs::Multiple::msTerm))]
+#[tactic(auto, unfolding(crate::specs::Multiple::dipole, crate::specs::Multiple::ms_term))]
 impl Dipole {
     fn new(sigma_s: f32, sigma_a: f32, g: f32, eta: f32, r: f32) -> Dipole
         ensures { result ≡ Multiple.dipole sigma_s sigma_a g eta r }
@@ -55,7 +55,7 @@ impl Dipole {
 
     // What a sample adds, by its depths, distances and exponentials.
     fn term(self, zr: f32, zv: f32, dr: f32, dv: f32, er: f32, ev: f32, ek: f32) -> f32
-        ensures { result ≡ Multiple.msTerm self zr zv dr dv er ev ek }
+        ensures { result ≡ Multiple.ms_term self zr zv dr dv er ev ek }
     {
         let sigma_tr = self.sigma_tr;
         let phi_d = INV_4_PI / self.d_g * (er / dr - ev / dv);
@@ -93,8 +93,8 @@ fn mirrored(ze: f32, zr: &[f32], out: &mut [f32])
 
 // How much arrives from each distance.
 fn attenuations(sigma_tr: f32, d: &[f32], out: &mut [f32])
-    requires samples { length d.now ≡ nSamples }
-    requires room { length out.old ≡ nSamples }
+    requires samples { length d.now ≡ n_samples }
+    requires room { length out.old ≡ n_samples }
     ensures { out.new ≡ map (λ (x : Float). exp (neg sigma_tr ⊗ x)) d.now }
 {
     let n = d.len();
@@ -108,10 +108,10 @@ fn attenuations(sigma_tr: f32, d: &[f32], out: &mut [f32])
 // Kappa's exponentials.
 #[tactic(auto, using(elementary::proofs::Mapped::listing))]
 fn corrections(sigmap_t: f32, zr: &[f32], dr: &[f32], out: &mut [f32])
-    requires samples { length zr.now ≡ nSamples }
-    requires distances { length dr.now ≡ nSamples }
-    requires room { length out.old ≡ nSamples }
-    ensures { out.new ≡ listOf nSamples (λ (k : ℕ). exp (neg two ⊗ sigmap_t ⊗ (get_or dr.now k nan ⊕ get_or zr.now k nan))) }
+    requires samples { length zr.now ≡ n_samples }
+    requires distances { length dr.now ≡ n_samples }
+    requires room { length out.old ≡ n_samples }
+    ensures { out.new ≡ list_of n_samples (λ (k : ℕ). exp (neg two ⊗ sigmap_t ⊗ (get_or dr.now k nan ⊕ get_or zr.now k nan))) }
 {
     let n = zr.len();
     let factor = -2.0 * sigmap_t;
@@ -133,7 +133,7 @@ fn sum(
     ek: &[f32],
 ) -> f32
     requires { (length zv.now ≡ length zr.now) × (length dr.now ≡ length zr.now) × (length dv.now ≡ length zr.now) × (length er.now ≡ length zr.now) × (length ev.now ≡ length zr.now) × (length ek.now ≡ length zr.now) }
-    ensures { result ≡ sumTo (λ (k : ℕ). Multiple.msTerm p (get_or zr.now k nan) (get_or zv.now k nan) (get_or dr.now k nan) (get_or dv.now k nan) (get_or er.now k nan) (get_or ev.now k nan) (get_or ek.now k nan)) (length zr.now) }
+    ensures { result ≡ sum_to (λ (k : ℕ). Multiple.ms_term p (get_or zr.now k nan) (get_or zv.now k nan) (get_or dr.now k nan) (get_or dv.now k nan) (get_or er.now k nan) (get_or ev.now k nan) (get_or ek.now k nan)) (length zr.now) }
 {
     let n = zr.len();
     let mut ed = 0.0;
@@ -144,7 +144,7 @@ fn sum(
 }
 
 // The same as `beam_diffusion_ms`, for a caller that has the logarithms.
-#[tactic(auto, using(elementary::proofs::Mapped::summing), unfolding(crate::specs::Samples::nSamples, crate::specs::Samples::sampleLogs, crate::specs::Multiple::msAddend, crate::specs::Multiple::beamDiffusionMs))]
+#[tactic(auto, using(elementary::proofs::Mapped::summing), unfolding(crate::specs::Samples::n_samples, crate::specs::Samples::sample_logs, crate::specs::Multiple::ms_addend, crate::specs::Multiple::beam_diffusion_ms))]
 pub fn beam_diffusion_ms_with(
     sigma_s: f32,
     sigma_a: f32,
@@ -153,8 +153,8 @@ pub fn beam_diffusion_ms_with(
     r: f32,
     logs: &[f32],
 ) -> f32
-    requires { logs.now ≡ sampleLogs }
-    ensures { result ≡ Multiple.beamDiffusionMs sigma_s sigma_a g eta r }
+    requires { logs.now ≡ sample_logs }
+    ensures { result ≡ Multiple.beam_diffusion_ms sigma_s sigma_a g eta r }
 {
     let p = Dipole::new(sigma_s, sigma_a, g, eta, r);
     let mut zr = [0.0f32; N_SAMPLES];
@@ -177,7 +177,7 @@ pub fn beam_diffusion_ms_with(
 // The light that leaves at the distance r from a beam after it is scattered many times, by the
 // coefficients of scattering and absorption, the phase function's g and the index of refraction.
 pub fn beam_diffusion_ms(sigma_s: f32, sigma_a: f32, g: f32, eta: f32, r: f32) -> f32
-    ensures { result ≡ Multiple.beamDiffusionMs sigma_s sigma_a g eta r }
+    ensures { result ≡ Multiple.beam_diffusion_ms sigma_s sigma_a g eta r }
 {
     let mut logs = [0.0f32; N_SAMPLES];
     sample_logs(&mut logs);

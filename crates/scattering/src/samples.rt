@@ -1,5 +1,5 @@
 // What the sums of beam diffusion share: the samples of depth, and distances.
-#![tactic(auto, using(elementary::proofs::Mapped::filling), unfolding(crate::specs::Samples::nSamples, crate::specs::Samples::sampleLn, crate::specs::Samples::sampleLogs, crate::specs::Samples::distance))]
+#![tactic(auto, using(elementary::proofs::Mapped::filling), unfolding(crate::specs::Samples::n_samples, crate::specs::Samples::sample_ln, crate::specs::Samples::sample_logs, crate::specs::Samples::distance))]
 
 ghost use Rattle.std.specs.Prelude.{◌≡◌, map, length};
 ghost use Rattle.elementary.specs.Exponential.{exp};
@@ -12,17 +12,17 @@ pub const SAMPLES: f32 = N_SAMPLES as f32;
 
 // The logarithm at the sample i. A `u16` is a float with no rounding.
 fn sample_ln(i: u16) -> f32
-    ensures { result ≡ Samples.sampleLn i }
+    ensures { result ≡ Samples.sample_ln i }
 {
     elementary::ln(1.0 - (i as f32 + 0.5) / SAMPLES)
 }
 
 // The logarithms at all samples. They are the same for every sum, so a caller that needs many sums
 // fills them in once.
-#[tactic(auto, using(elementary::proofs::Mapped::listing), unfolding(crate::specs::Samples::nSamples, crate::specs::Samples::sampleLogs))]
+#[tactic(auto, using(elementary::proofs::Mapped::listing), unfolding(crate::specs::Samples::n_samples, crate::specs::Samples::sample_logs))]
 pub fn sample_logs(logs: &mut [f32])
-    requires { length logs.old ≡ Samples.nSamples }
-    ensures { logs.new ≡ Samples.sampleLogs }
+    requires { length logs.old ≡ Samples.n_samples }
+    ensures { logs.new ≡ Samples.sample_logs }
 {
     for i in 0..N_SAMPLES as u16 {
         logs[i as usize] = sample_ln(i);
@@ -44,7 +44,7 @@ pub fn distances(r: f32, z: &[f32], out: &mut [f32])
 
 // The exponential of each element, in its place.
 pub fn exponentials(xs: &mut [f32])
-    requires { length xs.old ≡ Samples.nSamples }
+    requires { length xs.old ≡ Samples.n_samples }
     ensures { xs.new ≡ map exp xs.old }
 {
     let mut room = [0.0f64; N_SAMPLES];

@@ -1,15 +1,15 @@
 // `beam_diffusion_ss` of bssrdf.rs: light that is scattered once. Each step of the formula is done
 // for all samples before the next, so that the compiler works at several at once and no step waits
 // for a root or an exponential.
-#![tactic(auto, using(elementary::proofs::Mapped::filling), unfolding(elementary::specs::Lists::sumTo, crate::specs::Samples::nSamples, crate::specs::Single::ssTerm))]
+#![tactic(auto, using(elementary::proofs::Mapped::filling), unfolding(elementary::specs::Lists::sum_to, crate::specs::Samples::n_samples, crate::specs::Single::ss_term))]
 
 ghost use Rattle.std.specs.Prelude.{◌≡◌, map, ℕ, Float, length, get_or};
 ghost use Rattle.std.specs.Float.{nan};
 ghost use Rattle.std.specs.Float.Ieee.{neg};
 ghost use Rattle.elementary.specs.Notation.{◌⊕◌, ◌⊖◌, ◌⊗◌, ◌⊘◌};
-ghost use Rattle.elementary.specs.Lists.{sumTo, listOf};
+ghost use Rattle.elementary.specs.Lists.{sum_to, list_of};
 ghost use Rattle.elementary.specs.Exponential.{exp};
-ghost use Rattle.scattering.specs.Samples.{nSamples, sampleLogs};
+ghost use Rattle.scattering.specs.Samples.{n_samples, sample_logs};
 ghost use Rattle.scattering.specs.Single as Single;
 
 use crate::fresnel::fresnels;
@@ -32,7 +32,7 @@ fn lengths(t_crit: f32, sigma_t: f32, logs: &[f32], out: &mut [f32])
 fn cosines(ti: &[f32], d: &[f32], out: &mut [f32])
     requires lengths { length d.now ≡ length ti.now }
     requires room { length out.old ≡ length ti.now }
-    ensures { out.new ≡ listOf (length ti.now) (λ (k : ℕ). get_or ti.now k nan ⊘ get_or d.now k nan) }
+    ensures { out.new ≡ list_of (length ti.now) (λ (k : ℕ). get_or ti.now k nan ⊘ get_or d.now k nan) }
 {
     let n = ti.len();
     for i in 0..n {
@@ -53,8 +53,8 @@ fn opposites(xs: &[f32], out: &mut [f32])
 
 // How much is left of it on its way.
 fn attenuations(sigma_t: f32, t_crit: f32, d: &[f32], out: &mut [f32])
-    requires samples { length d.now ≡ nSamples }
-    requires room { length out.old ≡ nSamples }
+    requires samples { length d.now ≡ n_samples }
+    requires room { length out.old ≡ n_samples }
     ensures { out.new ≡ map (λ (x : Float). exp (neg sigma_t ⊗ (x ⊕ t_crit))) d.now }
 {
     let n = d.len();
@@ -67,7 +67,7 @@ fn attenuations(sigma_t: f32, t_crit: f32, d: &[f32], out: &mut [f32])
 
 // What a sample adds.
 fn term(rho: f32, d: f32, cos_theta_o: f32, attenuation: f32, phase: f32, fresnel: f32) -> f32
-    ensures { result ≡ Single.ssTerm rho d cos_theta_o attenuation phase fresnel }
+    ensures { result ≡ Single.ss_term rho d cos_theta_o attenuation phase fresnel }
 {
     rho * attenuation / (d * d) * phase * (1.0 - fresnel) * elementary::abs(cos_theta_o)
 }
@@ -82,7 +82,7 @@ fn sum(
     fresnels: &[f32],
 ) -> f32
     requires { (length cosines.now ≡ length d.now) × (length attenuations.now ≡ length d.now) × (length phases.now ≡ length d.now) × (length fresnels.now ≡ length d.now) }
-    ensures { result ≡ sumTo (λ (k : ℕ). Single.ssTerm rho (get_or d.now k nan) (get_or cosines.now k nan) (get_or attenuations.now k nan) (get_or phases.now k nan) (get_or fresnels.now k nan)) (length d.now) }
+    ensures { result ≡ sum_to (λ (k : ℕ). Single.ss_term rho (get_or d.now k nan) (get_or cosines.now k nan) (get_or attenuations.now k nan) (get_or phases.now k nan) (get_or fresnels.now k nan)) (length d.now) }
 {
     let n = d.len();
     let mut ess = 0.0;
@@ -101,7 +101,7 @@ fn sum(
 }
 
 // The same as `beam_diffusion_ss`, for a caller that has the logarithms.
-#[tactic(auto, using(elementary::proofs::Mapped::summing), unfolding(crate::specs::Samples::nSamples, crate::specs::Samples::sampleLogs, crate::specs::Single::ssAddend, crate::specs::Single::beamDiffusionSs))]
+#[tactic(auto, using(elementary::proofs::Mapped::summing), unfolding(crate::specs::Samples::n_samples, crate::specs::Samples::sample_logs, crate::specs::Single::ss_addend, crate::specs::Single::beam_diffusion_ss))]
 pub fn beam_diffusion_ss_with(
     sigma_s: f32,
     sigma_a: f32,
@@ -110,8 +110,8 @@ pub fn beam_diffusion_ss_with(
     r: f32,
     logs: &[f32],
 ) -> f32
-    requires { logs.now ≡ sampleLogs }
-    ensures { result ≡ Single.beamDiffusionSs sigma_s sigma_a g eta r }
+    requires { logs.now ≡ sample_logs }
+    ensures { result ≡ Single.beam_diffusion_ss sigma_s sigma_a g eta r }
 {
     let sigma_t = sigma_a + sigma_s;
     let rho = sigma_s / sigma_t;
@@ -136,7 +136,7 @@ pub fn beam_diffusion_ss_with(
 // The light that leaves at the distance r from a beam after it is scattered once, by the
 // coefficients of scattering and absorption, the phase function's g and the index of refraction.
 pub fn beam_diffusion_ss(sigma_s: f32, sigma_a: f32, g: f32, eta: f32, r: f32) -> f32
-    ensures { result ≡ Single.beamDiffusionSs sigma_s sigma_a g eta r }
+    ensures { result ≡ Single.beam_diffusion_ss sigma_s sigma_a g eta r }
 {
     let mut logs = [0.0f32; N_SAMPLES];
     sample_logs(&mut logs);

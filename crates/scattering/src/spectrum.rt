@@ -1,5 +1,5 @@
 // The spectrum of spectrum.rs, and its channels. Methods stand in place of the operator traits.
-#![tactic(auto, using(elementary::proofs::Values::testing), unfolding(crate::specs::Spectrum::channel, crate::specs::Spectrum::plus, crate::specs::Spectrum::times, crate::specs::Spectrum::clamp, crate::specs::Spectrum::hasNans))]
+#![tactic(auto, using(elementary::proofs::Values::testing), unfolding(crate::specs::Spectrum::channel, crate::specs::Spectrum::plus, crate::specs::Spectrum::times, crate::specs::Spectrum::clamp, crate::specs::Spectrum::has_nans))]
 
 ghost use Rattle.std.specs.Prelude.{◌≡◌};
 ghost use Rattle.scattering.specs.Spectrum as Spectra;
@@ -83,7 +83,7 @@ impl Spectrum {
     }
 
     pub fn has_nans(self) -> bool
-        ensures { result ≡ Spectra.hasNans self }
+        ensures { result ≡ Spectra.has_nans self }
     {
         let r = self.r;
         let g = self.g;

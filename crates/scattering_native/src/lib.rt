@@ -1,11 +1,11 @@
 // The sums of beam diffusion for C: oracle/scattering links them, to time them beside the Rust.
-#![tactic(auto, unfolding(scattering::specs::Samples::nSamples, elementary::specs::Lists::sumTo))]
+#![tactic(auto, unfolding(scattering::specs::Samples::n_samples, elementary::specs::Lists::sum_to))]
 
 ghost use Rattle.std.specs.Prelude.{◌≡◌, ℕ, length, get_or};
 ghost use Rattle.std.specs.Float.{nan};
-ghost use Rattle.elementary.specs.Lists.{sumTo};
-ghost use Rattle.scattering.specs.Single.{beamDiffusionSs};
-ghost use Rattle.scattering.specs.Multiple.{beamDiffusionMs};
+ghost use Rattle.elementary.specs.Lists.{sum_to};
+ghost use Rattle.scattering.specs.Single.{beam_diffusion_ss};
+ghost use Rattle.scattering.specs.Multiple.{beam_diffusion_ms};
 
 use scattering::N_SAMPLES;
 
@@ -17,7 +17,7 @@ pub extern "C" fn scattering_beam_diffusion_ss(
     eta: f32,
     r: f32,
 ) -> f32
-    ensures { result ≡ beamDiffusionSs sigma_s sigma_a g eta r }
+    ensures { result ≡ beam_diffusion_ss sigma_s sigma_a g eta r }
 {
     scattering::beam_diffusion_ss(sigma_s, sigma_a, g, eta, r)
 }
@@ -30,7 +30,7 @@ pub extern "C" fn scattering_beam_diffusion_ms(
     eta: f32,
     r: f32,
 ) -> f32
-    ensures { result ≡ beamDiffusionMs sigma_s sigma_a g eta r }
+    ensures { result ≡ beam_diffusion_ms sigma_s sigma_a g eta r }
 {
     scattering::beam_diffusion_ms(sigma_s, sigma_a, g, eta, r)
 }
@@ -44,7 +44,7 @@ pub extern "C" fn scattering_row_ss(
     eta: f32,
     radii: &[f32],
 ) -> f32
-    ensures { result ≡ sumTo (λ (i : ℕ). beamDiffusionSs sigma_s sigma_a g eta (get_or radii.now i nan)) (length radii.now) }
+    ensures { result ≡ sum_to (λ (i : ℕ). beam_diffusion_ss sigma_s sigma_a g eta (get_or radii.now i nan)) (length radii.now) }
 {
     let mut logs = [0.0f32; N_SAMPLES];
     scattering::sample_logs(&mut logs);
@@ -64,7 +64,7 @@ pub extern "C" fn scattering_row_ms(
     eta: f32,
     radii: &[f32],
 ) -> f32
-    ensures { result ≡ sumTo (λ (i : ℕ). beamDiffusionMs sigma_s sigma_a g eta (get_or radii.now i nan)) (length radii.now) }
+    ensures { result ≡ sum_to (λ (i : ℕ). beam_diffusion_ms sigma_s sigma_a g eta (get_or radii.now i nan)) (length radii.now) }
 {
     let mut logs = [0.0f32; N_SAMPLES];
     scattering::sample_logs(&mut logs);

@@ -3,7 +3,7 @@ use Rattle.std.specs.Prelude.{ℕ, zero, suc, List, pos, Float}
 use Rattle.std.specs.Float.{binary32}
 use Rattle.std.specs.Float.Ieee.{of_int, neg}
 use Rattle.elementary.specs.Notation.{◌⊖◌, ◌⊗◌, ◌⊘◌, lit}
-use Rattle.elementary.specs.Lists.{listOf}
+use Rattle.elementary.specs.Lists.{list_of}
 use Rattle.elementary.specs.Exponential.{exp}
 use Rattle.scattering.specs.Literals.{one}
 use Rattle.table.specs.declared.parameters.Record.{Record}
@@ -20,19 +20,19 @@ abbrev pub eight : Float
 eight = lit 0x4100_0000
 
 -- the radius j: 0, 0.0025, and then the former * 1.2
-unfoldable pub radiusSample : ℕ → Float
-radiusSample zero = lit 0
-radiusSample (suc zero) = «0·0025»
-radiusSample (suc (suc j)) = radiusSample (suc j) ⊗ «1·2»
+unfoldable pub radius_sample : ℕ → Float
+radius_sample zero = lit 0
+radius_sample (suc zero) = «0·0025»
+radius_sample (suc (suc j)) = radius_sample (suc j) ⊗ «1·2»
 
 -- the albedo i of n: (1 - exp(-8 * i / (n - 1))) / (1 - exp(-8))
-unfoldable pub rhoSample : ℕ → ℕ → Float
-rhoSample n i =
+unfoldable pub rho_sample : ℕ → ℕ → Float
+rho_sample n i =
     (one ⊖ exp (neg eight ⊗ of_int binary32 (pos i) ⊘ (of_int binary32 (pos n) ⊖ one))) ⊘ (one ⊖ exp (neg eight))
 
 -- the two node lists of a record
-unfoldable pub radiusSamples : Record → List Float
-radiusSamples r = listOf r.m radiusSample
+unfoldable pub radius_samples : Record → List Float
+radius_samples r = list_of r.m radius_sample
 
-unfoldable pub rhoSamples : Record → List Float
-rhoSamples r = listOf r.n (rhoSample r.n)
+unfoldable pub rho_samples : Record → List Float
+rho_samples r = list_of r.n (rho_sample r.n)

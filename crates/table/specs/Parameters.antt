@@ -1,7 +1,7 @@
 -- What document 01's calls on a table are about ("Starting a table"): the record, the six lists that a caller lends, and what a call does.
 use Rattle.std.specs.Prelude.{ℕ, List, [], length, Float}
 use Rattle.answers.specs.Answer.{Answer, refusal, value}
-use Rattle.interpolation.specs.Checks.{maxRows, maxRadii}
+use Rattle.interpolation.specs.Checks.{max_rows, max_radii}
 use Rattle.table.specs.declared.parameters.Record.{Record}
 use Rattle.table.specs.declared.parameters.Lengths.{Lengths}
 use Rattle.table.specs.declared.parameters.Outcome.{Outcome}
@@ -9,40 +9,40 @@ use Rattle.table.specs.declared.parameters.Outcome.TheVariants.{Done, Refused}
 
 -- ---- the record: N, M, g, eta
 
-abbrev pub recordOf : ℕ → ℕ → Float → Float → Record
-recordOf n m g eta = record { n = n; m = m; g = g; eta = eta }
+abbrev pub record_of : ℕ → ℕ → Float → Float → Record
+record_of n m g eta = record { n = n; m = m; g = g; eta = eta }
 
 -- as many rows and radii as there can be
 abbrev pub largest : Float → Float → Record
-largest g eta = recordOf maxRows maxRadii g eta
+largest g eta = record_of max_rows max_radii g eta
 
 -- ---- the six lists: albedo nodes, radius nodes, profile, effective albedos, CDF, marks; the names but the last are those of `BssrdfTable`
 
 pub record Lists : Type 0 where
-  pub rhoSamples : List Float
-  pub radiusSamples : List Float
+  pub rho_samples : List Float
+  pub radius_samples : List Float
   pub profile : List Float
-  pub rhoEff : List Float
-  pub profileCdf : List Float
+  pub rho_eff : List Float
+  pub profile_cdf : List Float
   pub marks : List ℕ
 
 abbrev pub lists : List Float → List Float → List Float → List Float → List Float → List ℕ → Lists
-lists rhoSamples radiusSamples profile rhoEff profileCdf marks = record {
-  rhoSamples = rhoSamples;
-  radiusSamples = radiusSamples;
+lists rho_samples radius_samples profile rho_eff profile_cdf marks = record {
+  rho_samples = rho_samples;
+  radius_samples = radius_samples;
   profile = profile;
-  rhoEff = rhoEff;
-  profileCdf = profileCdf;
+  rho_eff = rho_eff;
+  profile_cdf = profile_cdf;
   marks = marks;
 }
 
-abbrev pub lengthsOf : Lists → Lengths
-lengthsOf t = record {
-  rho_samples = length t.rhoSamples;
-  radius_samples = length t.radiusSamples;
+abbrev pub lengths_of : Lists → Lengths
+lengths_of t = record {
+  rho_samples = length t.rho_samples;
+  radius_samples = length t.radius_samples;
   profile = length t.profile;
-  rho_eff = length t.rhoEff;
-  profile_cdf = length t.profileCdf;
+  rho_eff = length t.rho_eff;
+  profile_cdf = length t.profile_cdf;
   marks = length t.marks;
 }
 
@@ -59,6 +59,6 @@ effect answer t = record { answer = answer; lists = t }
 abbrev pub done : Answer
 done = value [] []
 
-unfoldable pub outcomeTold : Outcome → Answer
-outcomeTold Done = done
-outcomeTold (Refused number) = refusal number
+unfoldable pub outcome_told : Outcome → Answer
+outcome_told Done = done
+outcome_told (Refused number) = refusal number

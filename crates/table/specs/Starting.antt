@@ -2,23 +2,23 @@
 use Rattle.std.specs.Prelude.{◌*◌, replicate}
 use Rattle.elementary.specs.Notation.{lit}
 use Rattle.answers.specs.Answer.{answered, written}
-use Rattle.table.specs.Parameters.{Lists, Effect, lengthsOf, effect, done}
-use Rattle.table.specs.Checks.{startNumber}
-use Rattle.table.specs.Nodes.{rhoSamples, radiusSamples}
+use Rattle.table.specs.Parameters.{Lists, Effect, lengths_of, effect, done}
+use Rattle.table.specs.Checks.{start_number}
+use Rattle.table.specs.Nodes.{rho_samples, radius_samples}
 use Rattle.table.specs.declared.parameters.Record.{Record}
 
 -- the six lists of a started table
 unfoldable pub started : Record → Lists
 started r = record {
-  rhoSamples = rhoSamples r;
-  radiusSamples = radiusSamples r;
+  rho_samples = rho_samples r;
+  radius_samples = radius_samples r;
   profile = replicate (r.n * r.m) (lit 0);
-  rhoEff = replicate r.n (lit 0);
-  profileCdf = replicate (r.n * r.m) (lit 0);
+  rho_eff = replicate r.n (lit 0);
+  profile_cdf = replicate (r.n * r.m) (lit 0);
   marks = replicate r.n 0;
 }
 
 unfoldable pub start : Record → Lists → Effect
 start r t =
-    let number = startNumber r (lengthsOf t) in
+    let number = start_number r (lengths_of t) in
     effect (answered number done) (written number (started r) t)

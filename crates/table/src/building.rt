@@ -1,6 +1,6 @@
 // The offered call `build`.
 ghost use Rattle.std.specs.Prelude.{◌≡◌};
-ghost use Rattle.table.specs.Parameters.{lists, effect, outcomeTold};
+ghost use Rattle.table.specs.Parameters.{lists, effect, outcome_told};
 ghost use Rattle.table.specs.Building as Building;
 
 use crate::checks::build_number;
@@ -10,7 +10,7 @@ use crate::row::build_row;
 // Builds row i from the nodes as they are lent: its part of the profile and of the CDF, its
 // effective albedo, and its mark, which becomes 1. Every other place of the six lists is left as it
 // was. Refusals: 1 to 7.
-#[tactic(auto, using(crate::proofs::Cited::calls), unfolding(crate::specs::Parameters::outcomeTold, crate::specs::Building::build, crate::specs::Building::built, crate::specs::TableRow::builtRow, crate::specs::TableRow::replaced))]
+#[tactic(auto, using(crate::proofs::Cited::calls), unfolding(crate::specs::Parameters::outcome_told, crate::specs::Building::build, crate::specs::Building::built, crate::specs::TableRow::built_row, crate::specs::TableRow::replaced))]
 pub fn build(
     r: Record,
     i: usize,
@@ -21,7 +21,7 @@ pub fn build(
     profile_cdf: &mut [f32],
     marks: &mut [u8],
 ) -> Outcome
-    ensures { effect (outcomeTold result) (lists rho_samples.now radius_samples.now profile.new rho_eff.new profile_cdf.new marks.new)
+    ensures { effect (outcome_told result) (lists rho_samples.now radius_samples.now profile.new rho_eff.new profile_cdf.new marks.new)
         ≡ Building.build r i (lists rho_samples.now radius_samples.now profile.old rho_eff.old profile_cdf.old marks.old) }
 {
     let lengths = Lengths {

@@ -1,14 +1,14 @@
 // The nodes that `compute_beam_diffusion_bssrdf` of bssrdf.rs chooses.
 ghost use Rattle.std.specs.Prelude.{◌≡◌, ◌≤◌, length};
-ghost use Rattle.elementary.specs.Lists.{listOf};
-ghost use Rattle.interpolation.specs.Checks.{maxRows};
+ghost use Rattle.elementary.specs.Lists.{list_of};
+ghost use Rattle.interpolation.specs.Checks.{max_rows};
 ghost use Rattle.table.specs.Nodes as Nodes;
 
 // The radii: 0, 0.0025, and then each the former times 1.2.
-#[tactic(auto, using(crate::proofs::Cited::fills), unfolding(crate::specs::Nodes::radiusSample))]
+#[tactic(auto, using(crate::proofs::Cited::fills), unfolding(crate::specs::Nodes::radius_sample))]
 pub fn radius_nodes(radius_samples: &mut [f32])
     requires { 2 ≤ length radius_samples.old }
-    ensures { radius_samples.new ≡ listOf (length radius_samples.old) Nodes.radiusSample }
+    ensures { radius_samples.new ≡ list_of (length radius_samples.old) Nodes.radius_sample }
 {
     let m = radius_samples.len();
     radius_samples[0] = 0.0;
@@ -19,10 +19,10 @@ pub fn radius_nodes(radius_samples: &mut [f32])
 }
 
 // The albedos: evenly spaced exponents, from 0 to 1.
-#[tactic(auto, using(crate::proofs::Cited::fills), unfolding(crate::specs::Nodes::rhoSample, interpolation::specs::Checks::maxRows))]
+#[tactic(auto, using(crate::proofs::Cited::fills), unfolding(crate::specs::Nodes::rho_sample, interpolation::specs::Checks::max_rows))]
 pub fn rho_nodes(rho_samples: &mut [f32])
-    requires { length rho_samples.old ≤ maxRows }
-    ensures { rho_samples.new ≡ listOf (length rho_samples.old) (Nodes.rhoSample (length rho_samples.old)) }
+    requires { length rho_samples.old ≤ max_rows }
+    ensures { rho_samples.new ≡ list_of (length rho_samples.old) (Nodes.rho_sample (length rho_samples.old)) }
 {
     let n = rho_samples.len() as u16;
     let last = n as f32 - 1.0;

@@ -1,11 +1,11 @@
 // What a table's calls are given and give: the record, the lengths of the six lists, and the answer.
-#![tactic(auto, using(crate::proofs::Literals::lowest), unfolding(interpolation::specs::Checks::maxRows, interpolation::specs::Checks::maxRadii))]
+#![tactic(auto, using(crate::proofs::Literals::lowest), unfolding(interpolation::specs::Checks::max_rows, interpolation::specs::Checks::max_radii))]
 
 ghost use Rattle.std.specs.Prelude.{◌≡◌};
-ghost use Rattle.interpolation.specs.Checks.{minNodes, maxRows, maxRadii};
-ghost use Rattle.scattering.specs.Checks.{minEta, maxEta};
+ghost use Rattle.interpolation.specs.Checks.{min_nodes, max_rows, max_radii};
+ghost use Rattle.scattering.specs.Checks.{min_eta, max_eta};
 ghost use Rattle.table.specs.Parameters as Parameters;
-ghost use Rattle.table.specs.Checks.{minG, maxG};
+ghost use Rattle.table.specs.Checks.{min_g, max_g};
 
 // The record of a table: n albedo rows of m radii each, the phase function's g, and the index of
 // refraction eta.
@@ -36,7 +36,7 @@ impl Record {
     pub const MAX_ETA: f32 = scattering::checks::MAX_ETA;
 
     pub fn new(n: usize, m: usize, g: f32, eta: f32) -> Record
-        ensures { result ≡ Parameters.recordOf n m g eta }
+        ensures { result ≡ Parameters.record_of n m g eta }
     {
         Record { n, m, g, eta }
     }
@@ -56,10 +56,10 @@ impl Record {
 
 // The limits are those of the definitions: that is the contract, and the function does nothing.
 pub fn limits()
-    ensures min_sizes { (Record.MIN_ROWS ≡ minNodes) × (Record.MIN_RADII ≡ minNodes) }
-    ensures max_sizes { (Record.MAX_ROWS ≡ maxRows) × (Record.MAX_RADII ≡ maxRadii) }
-    ensures g_bounds { (Record.MIN_G ≡ minG) × (Record.MAX_G ≡ maxG) }
-    ensures eta_bounds { (Record.MIN_ETA ≡ minEta) × (Record.MAX_ETA ≡ maxEta) }
+    ensures min_sizes { (Record.MIN_ROWS ≡ min_nodes) × (Record.MIN_RADII ≡ min_nodes) }
+    ensures max_sizes { (Record.MAX_ROWS ≡ max_rows) × (Record.MAX_RADII ≡ max_radii) }
+    ensures g_bounds { (Record.MIN_G ≡ min_g) × (Record.MAX_G ≡ max_g) }
+    ensures eta_bounds { (Record.MIN_ETA ≡ min_eta) × (Record.MAX_ETA ≡ max_eta) }
 {}
 
 // The lengths of the six lists that are lent.

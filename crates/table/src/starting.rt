@@ -1,7 +1,7 @@
 // The offered call `start`.
 ghost use Rattle.std.specs.Prelude.{◌≡◌, length, replicate};
 ghost use Rattle.elementary.specs.Notation.{lit};
-ghost use Rattle.table.specs.Parameters.{lists, effect, outcomeTold};
+ghost use Rattle.table.specs.Parameters.{lists, effect, outcome_told};
 ghost use Rattle.table.specs.Starting as Starting;
 
 use crate::checks::start_number;
@@ -29,7 +29,7 @@ fn clear_marks(marks: &mut [u8])
 
 // Starts a table in the six lists, whatever they hold: the nodes of the record, and no row built.
 // Refusals: 1 to 5.
-#[tactic(auto, using(crate::proofs::Cited::calls), unfolding(crate::specs::Parameters::outcomeTold, crate::specs::Starting::start, crate::specs::Starting::started, crate::specs::Nodes::rhoSamples, crate::specs::Nodes::radiusSamples))]
+#[tactic(auto, using(crate::proofs::Cited::calls), unfolding(crate::specs::Parameters::outcome_told, crate::specs::Starting::start, crate::specs::Starting::started, crate::specs::Nodes::rho_samples, crate::specs::Nodes::radius_samples))]
 pub fn start(
     r: Record,
     rho_samples: &mut [f32],
@@ -39,7 +39,7 @@ pub fn start(
     profile_cdf: &mut [f32],
     marks: &mut [u8],
 ) -> Outcome
-    ensures { effect (outcomeTold result) (lists rho_samples.new radius_samples.new profile.new rho_eff.new profile_cdf.new marks.new)
+    ensures { effect (outcome_told result) (lists rho_samples.new radius_samples.new profile.new rho_eff.new profile_cdf.new marks.new)
         ≡ Starting.start r (lists rho_samples.old radius_samples.old profile.old rho_eff.old profile_cdf.old marks.old) }
 {
     let lengths = Lengths {

@@ -1,6 +1,6 @@
 -- Bounds and errors of binary32 arithmetic, in units. `In x lo hi` says that x is finite, that binary32 holds it, and that it lies from -lo to hi.
--- A sum, product or quotient whose exact value lies between two numbers that binary32 holds is finite, and lies between them too, since rounding keeps the order and leaves those two as they are (`add-in`, `mul-in`, `div-in`).
--- A sum whose exact value is at most b in size differs from it by at most b / 2 ^ 24 (`add-error`). The opposite exact value rounds to the opposite (`add-opposite`, `mul-opposite`). Assumes nothing.
+-- A sum, product or quotient whose exact value lies between two numbers that binary32 holds is finite, and lies between them too, since rounding keeps the order and leaves those two as they are (`add_in`, `mul_in`, `div_in`).
+-- A sum whose exact value is at most b in size differs from it by at most b / 2 ^ 24 (`add_error`). The opposite exact value rounds to the opposite (`add_opposite`, `mul_opposite`). Assumes nothing.
 use mathlib.Core.Path.{◌≡◌, refl, sym, ap, ◌∙◌, subst}
 use mathlib.Core.Bool.{Bool, true, false}
 use Prim.Native.Nat.{ℕ, ◌+◌, ◌-◌, ◌*◌, ◌≤◌, ◌<◌}
@@ -15,9 +15,9 @@ use lib.Ieee.Fits.{neg-fits, add-fits, mul-fits, div-fits}
 use lib.Ieee.Scale.{finite}
 use Rattle.elementary.specs.Units.{mag}
 use Rattle.units.specs.Units.{Number, one, plus, minus}
-use Rattle.units.proofs.Near.{near, near-mono, near-error, Error}
-use Rattle.units.proofs.Held.{one-pos, Held, near-held}
-use Rattle.units.proofs.Rounded.{Rounded, Value, value, add-rounded, mul-rounded, div-rounded}
+use Rattle.units.proofs.Near.{near, near_mono, near_error, Error}
+use Rattle.units.proofs.Held.{one_pos, Held, near_held}
+use Rattle.units.proofs.Rounded.{Rounded, Value, value, add_rounded, mul_rounded, div_rounded}
 
 -- ---- values within bounds
 
@@ -27,26 +27,26 @@ pub record In (x : Float) (lo hi : ℕ) : Type 0 where
   pub high : plus x ≤ hi
 
 -- in its own bounds
-pub in-own : {x : Float} → Number x → In x (minus x) (plus x)
-in-own {x} n = record { number = n; low = le_refl (minus x); high = le_refl (plus x) }
+pub in_own : {x : Float} → Number x → In x (minus x) (plus x)
+in_own {x} n = record { number = n; low = le_refl (minus x); high = le_refl (plus x) }
 
-pub in-wider : {x : Float} {lo hi l h : ℕ} → In x lo hi → lo ≤ l → hi ≤ h → In x l h
-in-wider i a b = record { number = i.number; low = le_trans i.low a; high = le_trans i.high b }
+pub in_wider : {x : Float} {lo hi l h : ℕ} → In x lo hi → lo ≤ l → hi ≤ h → In x l h
+in_wider i a b = record { number = i.number; low = le_trans i.low a; high = le_trans i.high b }
 
 -- a rounded value's bounds are the exact value's, where binary32 holds them
 within : (p w b : ℕ) → 0 < w → Held b → p ≤ b * w → near p w ≤ b
-within p w b W B h = le_trans (near-mono p w b 1 W (pow_pos 0) (le_trans (le_of_eq (mul-one p)) h)) (le_of_eq (near-held B))
+within p w b W B h = le_trans (near_mono p w b 1 W (pow_pos 0) (le_trans (le_of_eq (mul-one p)) h)) (le_of_eq (near_held B))
 
-rounded-value : (z : Float) (p m w lo hi : ℕ) → Rounded z p m w → 0 < w → Held lo → Held hi → m ≤ lo * w → p ≤ hi * w → Value z (near p w) (near m w)
-rounded-value z p m w lo hi r W L H a b = value z p m w r W (lt_of_le_of_lt (within p w hi W H b) H.in-range) (lt_of_le_of_lt (within m w lo W L a) L.in-range)
+rounded_value : (z : Float) (p m w lo hi : ℕ) → Rounded z p m w → 0 < w → Held lo → Held hi → m ≤ lo * w → p ≤ hi * w → Value z (near p w) (near m w)
+rounded_value z p m w lo hi r W L H a b = value z p m w r W (lt_of_le_of_lt (within p w hi W H b) H.in_range) (lt_of_le_of_lt (within m w lo W L a) L.in_range)
 
-rounded-in : (z : Float) (p m w lo hi : ℕ) → T (fits binary32 z) → Rounded z p m w → 0 < w → Held lo → Held hi → m ≤ lo * w → p ≤ hi * w → In z lo hi
-rounded-in z p m w lo hi f r W L H a b =
-    let v = rounded-value z p m w lo hi r W L H a b in
+rounded_in : (z : Float) (p m w lo hi : ℕ) → T (fits binary32 z) → Rounded z p m w → 0 < w → Held lo → Held hi → m ≤ lo * w → p ≤ hi * w → In z lo hi
+rounded_in z p m w lo hi f r W L H a b =
+    let v = rounded_value z p m w lo hi r W L H a b in
     record {
-      number = record { is-finite = v.is-finite; holds = f };
-      low = le_trans (le_of_eq v.is-minus) (within m w lo W L a);
-      high = le_trans (le_of_eq v.is-plus) (within p w hi W H b);
+      number = record { is_finite = v.is_finite; holds = f };
+      low = le_trans (le_of_eq v.is_minus) (within m w lo W L a);
+      high = le_trans (le_of_eq v.is_plus) (within p w hi W H b);
     }
 
 -- ---- the opposite: -x has x's units, changed over
@@ -54,28 +54,28 @@ rounded-in z p m w lo hi f r W L H a b =
 abbrev pub Opposite : Float → Float → Type 0
 Opposite x y = (plus y ≡ minus x) × (minus y ≡ plus x)
 
-mag-sign : (s t : Bool) (m : ℕ) (e : ℤ) → mag (fin s m e) ≡ mag (fin t m e)
+mag_sign : (s t : Bool) (m : ℕ) (e : ℤ) → mag (fin s m e) ≡ mag (fin t m e)
 unfolding mag
-mag-sign s t m e = refl
+mag_sign s t m e = refl
 
-pub neg-opposite : (x : Float) → Opposite x (neg x)
+pub neg_opposite : (x : Float) → Opposite x (neg x)
 unfolding neg plus minus
-neg-opposite nan = (refl, refl)
-neg-opposite (inf s) = (refl, refl)
-neg-opposite (fin true m e) = (mag-sign false true m e, refl)
-neg-opposite (fin false m e) = (refl, mag-sign true false m e)
+neg_opposite nan = (refl, refl)
+neg_opposite (inf s) = (refl, refl)
+neg_opposite (fin true m e) = (mag_sign false true m e, refl)
+neg_opposite (fin false m e) = (refl, mag_sign true false m e)
 
-neg-finite : (x : Float) → T (finite x) → T (finite (neg x))
+neg_finite : (x : Float) → T (finite x) → T (finite (neg x))
 unfolding neg
-neg-finite nan t = t
-neg-finite (inf s) t = t
-neg-finite (fin s m e) t = tt
+neg_finite nan t = t
+neg_finite (inf s) t = t
+neg_finite (fin s m e) t = tt
 
-pub neg-in : {x : Float} {lo hi : ℕ} → In x lo hi → In (neg x) hi lo
-neg-in {x} i =
-    let o = neg-opposite x in
+pub neg_in : {x : Float} {lo hi : ℕ} → In x lo hi → In (neg x) hi lo
+neg_in {x} i =
+    let o = neg_opposite x in
     record {
-      number = record { is-finite = neg-finite x i.number.is-finite; holds = neg-fits binary32 x i.number.holds };
+      number = record { is_finite = neg_finite x i.number.is_finite; holds = neg-fits binary32 x i.number.holds };
       low = le_trans (le_of_eq o.1) i.high;
       high = le_trans (le_of_eq o.0) i.low;
     }
@@ -84,14 +84,14 @@ neg-in {x} i =
 
 module _ {x y : Float} {lo hi a b c d : ℕ} (X : In x a b) (Y : In y c d) (L : Held lo) (H : Held hi)
     (l : minus x + minus y ≤ plus x + plus y + lo) (h : plus x + plus y ≤ minus x + minus y + hi) where
-  rounded-sum : Rounded (add binary32 x y) (plus x + plus y - (minus x + minus y)) (minus x + minus y - (plus x + plus y)) 1
-  rounded-sum = add-rounded x y X.number Y.number
+  rounded_sum : Rounded (add binary32 x y) (plus x + plus y - (minus x + minus y)) (minus x + minus y - (plus x + plus y)) 1
+  rounded_sum = add_rounded x y X.number Y.number
 
-  pub add-value : Value (add binary32 x y) (near (plus x + plus y - (minus x + minus y)) 1) (near (minus x + minus y - (plus x + plus y)) 1)
-  add-value = rounded-value (add binary32 x y) _ _ 1 lo hi rounded-sum (pow_pos 0) L H (omega arith) (omega arith)
+  pub add_value : Value (add binary32 x y) (near (plus x + plus y - (minus x + minus y)) 1) (near (minus x + minus y - (plus x + plus y)) 1)
+  add_value = rounded_value (add binary32 x y) _ _ 1 lo hi rounded_sum (pow_pos 0) L H (omega arith) (omega arith)
 
-  pub add-in : In (add binary32 x y) lo hi
-  add-in = rounded-in (add binary32 x y) _ _ 1 lo hi (add-fits binary32 x y) rounded-sum (pow_pos 0) L H (omega arith) (omega arith)
+  pub add_in : In (add binary32 x y) lo hi
+  add_in = rounded_in (add binary32 x y) _ _ 1 lo hi (add-fits binary32 x y) rounded_sum (pow_pos 0) L H (omega arith) (omega arith)
 
 -- z is (p - n) units, up to b / 2 ^ 24
 abbrev pub Off : Float → ℕ → ℕ → ℕ → Type 0
@@ -101,42 +101,42 @@ off : (u v p n b : ℕ) → Error (p - n) u → Error (n - p) v → p ≤ n + b 
     → ((u + n) * 16777216 ≤ (v + p) * 16777216 + b) × ((v + p) * 16777216 ≤ (u + n) * 16777216 + b)
 off u v p n b e f h k = (omega arith, omega arith)
 
-pub add-error : {x y : Float} {a b c d e : ℕ} → In x a b → In y c d → Held e → minus x + minus y ≤ plus x + plus y + e → plus x + plus y ≤ minus x + minus y + e
+pub add_error : {x y : Float} {a b c d e : ℕ} → In x a b → In y c d → Held e → minus x + minus y ≤ plus x + plus y + e → plus x + plus y ≤ minus x + minus y + e
     → Off (add binary32 x y) (plus x + plus y) (minus x + minus y) e
-add-error {x} {y} {e = e} X Y E l h =
+add_error {x} {y} {e = e} X Y E l h =
     let p = plus x + plus y in
     let n = minus x + minus y in
-    let k = add-value X Y E E l h in
-    off (plus (add binary32 x y)) (minus (add binary32 x y)) p n e (subst (Error (p - n)) (sym k.is-plus) (near-error (p - n))) (subst (Error (n - p)) (sym k.is-minus) (near-error (n - p))) h l
+    let k = add_value X Y E E l h in
+    off (plus (add binary32 x y)) (minus (add binary32 x y)) p n e (subst (Error (p - n)) (sym k.is_plus) (near_error (p - n))) (subst (Error (n - p)) (sym k.is_minus) (near_error (n - p))) h l
 
 -- the opposite sum
-pub add-opposite : {x y x' y' : Float} {lo hi a b c d a' b' c' d' : ℕ} → In x a b → In y c d → In x' a' b' → In y' c' d' → Opposite x x' → Opposite y y' → Held lo → Held hi
+pub add_opposite : {x y x' y' : Float} {lo hi a b c d a' b' c' d' : ℕ} → In x a b → In y c d → In x' a' b' → In y' c' d' → Opposite x x' → Opposite y y' → Held lo → Held hi
     → minus x + minus y ≤ plus x + plus y + lo → plus x + plus y ≤ minus x + minus y + hi → Opposite (add binary32 x y) (add binary32 x' y')
-add-opposite {x} {y} {x'} {y'} X Y X' Y' O Q L H l h =
-    let k = add-value X Y L H l h in
+add_opposite {x} {y} {x'} {y'} X Y X' Y' O Q L H l h =
+    let k = add_value X Y L H l h in
     let p : plus x' + plus y' ≡ minus x + minus y = cc (O.0, Q.0) in
     let n : minus x' + minus y' ≡ plus x + plus y = cc (O.1, Q.1) in
-    let j = add-value X' Y' H L (omega arith) (omega arith) in
-    (j.is-plus ∙ cc (p, n, k.is-minus), j.is-minus ∙ cc (p, n, k.is-plus))
+    let j = add_value X' Y' H L (omega arith) (omega arith) in
+    (j.is_plus ∙ cc (p, n, k.is_minus), j.is_minus ∙ cc (p, n, k.is_plus))
 
 -- ---- differences
 
-pub sub-is : (x y : Float) → sub binary32 x y ≡ add binary32 x (neg y)
+pub sub_is : (x y : Float) → sub binary32 x y ≡ add binary32 x (neg y)
 unfolding sub
-sub-is x y = refl
+sub_is x y = refl
 
-pub sub-in : {x y : Float} {lo hi a b c d : ℕ} → In x a b → In y c d → Held lo → Held hi → minus x + plus y ≤ plus x + minus y + lo → plus x + minus y ≤ minus x + plus y + hi
+pub sub_in : {x y : Float} {lo hi a b c d : ℕ} → In x a b → In y c d → Held lo → Held hi → minus x + plus y ≤ plus x + minus y + lo → plus x + minus y ≤ minus x + plus y + hi
     → In (sub binary32 x y) lo hi
-sub-in {x} {y} X Y L H l h =
-    let o = neg-opposite y in
-    rw (sub-is x y) (add-in X (neg-in Y) L H (omega arith) (omega arith))
+sub_in {x} {y} X Y L H l h =
+    let o = neg_opposite y in
+    rw (sub_is x y) (add_in X (neg_in Y) L H (omega arith) (omega arith))
 
-pub sub-error : {x y : Float} {a b c d e : ℕ} → In x a b → In y c d → Held e → minus x + plus y ≤ plus x + minus y + e → plus x + minus y ≤ minus x + plus y + e
+pub sub_error : {x y : Float} {a b c d e : ℕ} → In x a b → In y c d → Held e → minus x + plus y ≤ plus x + minus y + e → plus x + minus y ≤ minus x + plus y + e
     → Off (sub binary32 x y) (plus x + minus y) (minus x + plus y) e
-sub-error {x} {y} X Y E l h =
-    let o = neg-opposite y in
-    let g = add-error X (neg-in Y) E (omega arith) (omega arith) in
-    rw (sub-is x y) (omega arith)
+sub_error {x} {y} X Y E l h =
+    let o = neg_opposite y in
+    let g = add_error X (neg_in Y) E (omega arith) (omega arith) in
+    rw (sub_is x y) (omega arith)
 
 -- ---- products by a y that is not negative
 
@@ -153,28 +153,28 @@ module _ {x y : Float} {l h a b c : ℕ} (X : In x a b) (Y : In y 0 c) (L : Held
       let g = mul-le-mul X.low Y.high in
       omega arith
 
-  rounded-product : Rounded (mul binary32 x y) (plus x * plus y + minus x * minus y) (plus x * minus y + minus x * plus y) one
-  rounded-product = mul-rounded x y X.number Y.number
+  rounded_product : Rounded (mul binary32 x y) (plus x * plus y + minus x * minus y) (plus x * minus y + minus x * plus y) one
+  rounded_product = mul_rounded x y X.number Y.number
 
-  pub mul-value : Value (mul binary32 x y) (near (plus x * plus y + minus x * minus y) one) (near (plus x * minus y + minus x * plus y) one)
-  mul-value = rounded-value (mul binary32 x y) _ _ one l h rounded-product one-pos L H lower upper
+  pub mul_value : Value (mul binary32 x y) (near (plus x * plus y + minus x * minus y) one) (near (plus x * minus y + minus x * plus y) one)
+  mul_value = rounded_value (mul binary32 x y) _ _ one l h rounded_product one_pos L H lower upper
 
-  pub mul-in : In (mul binary32 x y) l h
-  mul-in = rounded-in (mul binary32 x y) _ _ one l h (mul-fits binary32 x y) rounded-product one-pos L H lower upper
+  pub mul_in : In (mul binary32 x y) l h
+  mul_in = rounded_in (mul binary32 x y) _ _ one l h (mul-fits binary32 x y) rounded_product one_pos L H lower upper
 
-pub mul-opposite : {x x' y : Float} {l h a b c : ℕ} → In x a b → In x' b a → In y 0 c → Opposite x x' → Held l → Held h → a * c ≤ l * one → b * c ≤ h * one
+pub mul_opposite : {x x' y : Float} {l h a b c : ℕ} → In x a b → In x' b a → In y 0 c → Opposite x x' → Held l → Held h → a * c ≤ l * one → b * c ≤ h * one
     → Opposite (mul binary32 x y) (mul binary32 x' y)
-mul-opposite {x} {x'} {y} X X' Y O L H u v =
-    let k = mul-value X Y L H u v in
-    let j = mul-value X' Y H L v u in (
-      j.is-plus ∙ ap (λ (n : ℕ). near n one) (cc (O.0, O.1, add_comm (minus x * plus y) (plus x * minus y))) ∙ sym k.is-minus,
-      j.is-minus ∙ ap (λ (n : ℕ). near n one) (cc (O.0, O.1, add_comm (minus x * minus y) (plus x * plus y))) ∙ sym k.is-plus,
+mul_opposite {x} {x'} {y} X X' Y O L H u v =
+    let k = mul_value X Y L H u v in
+    let j = mul_value X' Y H L v u in (
+      j.is_plus ∙ ap (λ (n : ℕ). near n one) (cc (O.0, O.1, add_comm (minus x * plus y) (plus x * minus y))) ∙ sym k.is_minus,
+      j.is_minus ∙ ap (λ (n : ℕ). near n one) (cc (O.0, O.1, add_comm (minus x * minus y) (plus x * plus y))) ∙ sym k.is_plus,
     )
 
 -- ---- quotients by a y above zero
 
-pub div-in : {x y : Float} {l h a b c d : ℕ} → In x a b → In y c d → 0 < plus y → Held l → Held h → a * one ≤ l * plus y → b * one ≤ h * plus y → In (div binary32 x y) l h
-div-in {x} {y} {l} {h} X Y P L H u v =
-    rounded-in (div binary32 x y) (plus x * one) (minus x * one) (plus y) l h (div-fits binary32 x y)
-    (div-rounded x y X.number Y.number P) P L H
+pub div_in : {x y : Float} {l h a b c d : ℕ} → In x a b → In y c d → 0 < plus y → Held l → Held h → a * one ≤ l * plus y → b * one ≤ h * plus y → In (div binary32 x y) l h
+div_in {x} {y} {l} {h} X Y P L H u v =
+    rounded_in (div binary32 x y) (plus x * one) (minus x * one) (plus y) l h (div-fits binary32 x y)
+    (div_rounded x y X.number Y.number P) P L H
     (le_trans (mul-le-mul_right one X.low) u) (le_trans (mul-le-mul_right one X.high) v)

@@ -1,6 +1,6 @@
 -- What rounding to 24 digits does, over natural numbers: `near n c` is the fraction n / c of units, rounded.
--- It keeps the order (`near-mono`): either two fractions drop as many digits, and then the kept numbers are in order, or a power of two lies between the results.
--- What has 24 digits and zeros after them loses only zeros (`near-fixes`). A whole number n moves by at most half of the last digit kept, which is n / 2 ^ 24 at most (`near-error`).
+-- It keeps the order (`near_mono`): either two fractions drop as many digits, and then the kept numbers are in order, or a power of two lies between the results.
+-- What has 24 digits and zeros after them loses only zeros (`near_fixes`). A whole number n moves by at most half of the last digit kept, which is n / 2 ^ 24 at most (`near_error`).
 -- Nothing here is about floats. Assumes nothing.
 use mathlib.Core.Path.{◌≡◌, refl, sym, ap, ◌∙◌, subst}
 use mathlib.Core.Bool.{not}
@@ -22,31 +22,31 @@ near n c = kept 24 n c * 2 ^ drop 24 n c
 
 -- ---- the order, with the text of `lib.Ieee.Order`, which keeps this law to itself
 
-size-mono : (a b : ℕ) → a ≤ b → size a ≤ size b
-size-mono a b h = size-le a (size b) (lt_of_le_of_lt h (size-lt b))
+size_mono : (a b : ℕ) → a ≤ b → size a ≤ size b
+size_mono a b h = size-le a (size b) (lt_of_le_of_lt h (size-lt b))
 
-same-drop : (k a b c d : ℕ) → 0 < b → 0 < d → a * d ≤ c * b → closest a (b * 2 ^ k) * 2 ^ k ≤ closest c (d * 2 ^ k) * 2 ^ k
-same-drop k a b c d B D h =
+same_drop : (k a b c d : ℕ) → 0 < b → 0 < d → a * d ≤ c * b → closest a (b * 2 ^ k) * 2 ^ k ≤ closest c (d * 2 ^ k) * 2 ^ k
+same_drop k a b c d B D h =
     mul-le-mul_right (2 ^ k)
     (closest_mono a (b * 2 ^ k) c (d * 2 ^ k) (mul-pos B (pow_pos k)) (mul-pos D (pow_pos k))
     (le_trans (le_of_eq (sym (mul_assoc a d (2 ^ k)))) (le_trans (mul-le-mul_right (2 ^ k) h) (le_of_eq (mul_assoc c b (2 ^ k))))))
 
-kept-le : (p n c : ℕ) → kept p n c ≤ 2 ^ p
-kept-le p n c =
+kept_le : (p n c : ℕ) → kept p n c ≤ 2 ^ p
+kept_le p n c =
     let k = drop p n c in
     let u = c * 2 ^ k in
     le_trans (nearest-le (n / u) (compare (n % u * 2) u)) (subst (λ (x : ℕ). x < 2 ^ p) (div-div-eq-div-mul n c (2 ^ k)) (kept-lt p (n / c)))
 
-all-in-use : (z p : ℕ) → 0 < p → 0 < z - p → p - 1 + (z - p) < z
-all-in-use z p P h = omega arith
+all_in_use : (z p : ℕ) → 0 < p → 0 < z - p → p - 1 + (z - p) < z
+all_in_use z p P h = omega arith
 
 -- where digits are dropped, the kept number has at least p digits
-kept-ge : (p n c : ℕ) → 0 < p → 0 < drop p n c → 2 ^ (p - 1) ≤ kept p n c
-kept-ge p n c P K =
+kept_ge : (p n c : ℕ) → 0 < p → 0 < drop p n c → 2 ^ (p - 1) ≤ kept p n c
+kept_ge p n c P K =
     let k = drop p n c in
     let u = c * 2 ^ k in
     let w = n / c in
-    let a : 2 ^ (p - 1) * 2 ^ k ≤ w = le_trans (le_of_eq (sym (pow-add 2 (p - 1) k))) (size_reaches w (p - 1 + k) (all-in-use (size w) p P K)) in
+    let a : 2 ^ (p - 1) * 2 ^ k ≤ w = le_trans (le_of_eq (sym (pow-add 2 (p - 1) k))) (size_reaches w (p - 1 + k) (all_in_use (size w) p P K)) in
     le_trans (subst (λ (x : ℕ). 2 ^ (p - 1) ≤ x) (div-div-eq-div-mul n c (2 ^ k)) ((le-div_iff_mul-le (pow_pos k)).1 a)) (nearest-ge (n / u) (compare (n % u * 2) u))
 
 fewer : (x y p : ℕ) → x ≤ y → x - p ≤ y - p
@@ -55,31 +55,31 @@ fewer x y p h = omega arith
 room : (p j k : ℕ) → 0 < p → j < k → p + j ≤ p - 1 + k
 room p j k P h = omega arith
 
-grid-mono : (p a b c d : ℕ) → 0 < p → 0 < b → 0 < d → a * d ≤ c * b → kept p a b * 2 ^ drop p a b ≤ kept p c d * 2 ^ drop p c d
-grid-mono p a b c d P B D h =
+grid_mono : (p a b c d : ℕ) → 0 < p → 0 < b → 0 < d → a * d ≤ c * b → kept p a b * 2 ^ drop p a b ≤ kept p c d * 2 ^ drop p c d
+grid_mono p a b c d P B D h =
     let j = drop p a b in
     let k = drop p c d in
-    elim (eq-or-lt_of_le (fewer (size (a / b)) (size (c / d)) p (size-mono (a / b) (c / d) (div_mono a b c d B D h)))) [
-      | inl e ↦ subst (λ (x : ℕ). closest a (b * 2 ^ x) * 2 ^ x ≤ kept p c d * 2 ^ k) (sym e) (same-drop k a b c d B D h)
+    elim (eq-or-lt_of_le (fewer (size (a / b)) (size (c / d)) p (size_mono (a / b) (c / d) (div_mono a b c d B D h)))) [
+      | inl e ↦ subst (λ (x : ℕ). closest a (b * 2 ^ x) * 2 ^ x ≤ kept p c d * 2 ^ k) (sym e) (same_drop k a b c d B D h)
       | inr l ↦
-          le_trans (mul-le-mul_right (2 ^ j) (kept-le p a b))
+          le_trans (mul-le-mul_right (2 ^ j) (kept_le p a b))
           (le_trans (le_of_eq (sym (pow-add 2 p j)))
           (le_trans (pow_mono (room p j k P l))
-          (le_trans (le_of_eq (pow-add 2 (p - 1) k)) (mul-le-mul_right (2 ^ k) (kept-ge p c d P (lt_of_le_of_lt zero-le l))))))
+          (le_trans (le_of_eq (pow-add 2 (p - 1) k)) (mul-le-mul_right (2 ^ k) (kept_ge p c d P (lt_of_le_of_lt zero-le l))))))
     ]
 
-pub near-mono : (a b c d : ℕ) → 0 < b → 0 < d → a * d ≤ c * b → near a b ≤ near c d
+pub near_mono : (a b c d : ℕ) → 0 < b → 0 < d → a * d ≤ c * b → near a b ≤ near c d
 unfolding near
-near-mono a b c d B D h = grid-mono 24 a b c d (omega arith) B D h
+near_mono a b c d B D h = grid_mono 24 a b c d (omega arith) B D h
 
 -- equal fractions round alike
-pub near-same : (a b c d : ℕ) → 0 < b → 0 < d → a * d ≡ c * b → near a b ≡ near c d
-near-same a b c d B D e = le_antisymm (near-mono a b c d B D (le_of_eq e)) (near-mono c d a b D B (le_of_eq (sym e)))
+pub near_same : (a b c d : ℕ) → 0 < b → 0 < d → a * d ≡ c * b → near a b ≡ near c d
+near_same a b c d B D e = le_antisymm (near_mono a b c d B D (le_of_eq e)) (near_mono c d a b D B (le_of_eq (sym e)))
 
 -- ---- what 24 digits hold
 
-closest-whole : (r : ℕ) → closest r 1 ≡ r
-closest-whole r = simp (div-one, mod-one)
+closest_whole : (r : ℕ) → closest r 1 ≡ r
+closest_whole r = simp (div-one, mod-one)
 
 spare : (z p l : ℕ) → z ≤ p + l → z - p ≤ l
 spare z p l h = omega arith
@@ -92,15 +92,15 @@ fixes n q j small e =
     let l : k ≤ j = spare (size (n / 1)) 24 j (size-le (n / 1) (24 + j) (subst (λ (x : ℕ). x < 2 ^ (24 + j)) (sym (w ∙ e)) (shl_lt 24 j small))) in
     let r = q * 2 ^ (j - k) in
     let f : r * 2 ^ k ≡ n = mul_assoc q (2 ^ (j - k)) (2 ^ k) ∙ ap (λ (x : ℕ). q * x) (sym (pow-add 2 (j - k) k) ∙ ap (λ (x : ℕ). 2 ^ x) (back j k l)) ∙ sym e in
-    let c : closest n (1 * 2 ^ k) ≡ r = closest_same n (1 * 2 ^ k) r 1 (mul-pos (pow_pos 0) (pow_pos k)) (pow_pos 0) (mul-one n ∙ sym f ∙ ap (λ (x : ℕ). r * x) (sym (one-mul (2 ^ k)))) ∙ closest-whole r in
+    let c : closest n (1 * 2 ^ k) ≡ r = closest_same n (1 * 2 ^ k) r 1 (mul-pos (pow_pos 0) (pow_pos k)) (pow_pos 0) (mul-one n ∙ sym f ∙ ap (λ (x : ℕ). r * x) (sym (one-mul (2 ^ k)))) ∙ closest_whole r in
     ap (λ (x : ℕ). x * 2 ^ k) c ∙ f
 
 -- q * 2 ^ j units, with a q of at most 24 digits
-pub near-fixes : (q j : ℕ) → q < 2 ^ 24 → near (q * 2 ^ j) 1 ≡ q * 2 ^ j
-near-fixes q j small = fixes (q * 2 ^ j) q j small refl
+pub near_fixes : (q j : ℕ) → q < 2 ^ 24 → near (q * 2 ^ j) 1 ≡ q * 2 ^ j
+near_fixes q j small = fixes (q * 2 ^ j) q j small refl
 
-pub near-zero : (c : ℕ) → 0 < c → near 0 c ≡ 0
-near-zero c C = near-same 0 c 0 1 C (pow_pos 0) (sym (zero-mul c)) ∙ near-fixes 0 0 (pow_pos 24)
+pub near_zero : (c : ℕ) → 0 < c → near 0 c ≡ 0
+near_zero c C = near_same 0 c 0 1 C (pow_pos 0) (sym (zero-mul c)) ∙ near_fixes 0 0 (pow_pos 24)
 
 -- ---- the error
 
@@ -124,15 +124,15 @@ Half n u v = (v * u * 2 ≤ n * 2 + u) × (n * 2 ≤ v * u * 2 + u)
 half : (n u q r : ℕ) (o : Ordering) → q * u + r ≡ n → r < u → Cmp o (r * 2) u → Half n u (nearest q o)
 half n u q r Ordering.lt e l c = (omega arith, omega arith)
 half n u q r Ordering.eq e l c =
-    let a : q % 2 * u ≤ 1 * u = mul-le-mul_right u (below-two q) in
+    let a : q % 2 * u ≤ 1 * u = mul-le-mul_right u (below_two q) in
     (omega arith, omega arith)
   where
-    below-two : (x : ℕ) → x % 2 ≤ 1
-    below-two x = omega arith
+    below_two : (x : ℕ) → x % 2 ≤ 1
+    below_two x = omega arith
 half n u q r Ordering.gt e l c = (omega arith, omega arith)
 
-closest-half : (n u : ℕ) → 0 < u → Half n u (closest n u)
-closest-half n u U = half n u (n / u) (n % u) (compare (n % u * 2) u) (div-add-mod' n u) (mod-lt n U) (cmp (n % u * 2) u)
+closest_half : (n u : ℕ) → 0 < u → Half n u (closest n u)
+closest_half n u U = half n u (n / u) (n % u) (compare (n % u * 2) u) (div-add-mod' n u) (mod-lt n U) (cmp (n % u * 2) u)
 
 -- v is n, up to n / 2 ^ 24
 abbrev pub Error : ℕ → ℕ → Type 0
@@ -144,12 +144,12 @@ dropped n k v h l = let e : 1 * 2 ^ k ≡ 2 ^ k = one-mul (2 ^ k) in go (2 ^ k) 
     go : (u w : ℕ) → w ≡ u → Half n w v → 8388608 * u ≤ n → Error n (v * u)
     go u w e h l = let f : v * w ≡ v * u = ap (λ (x : ℕ). v * x) e in (omega arith, omega arith)
 
-pub near-error : (n : ℕ) → Error n (near n 1)
+pub near_error : (n : ℕ) → Error n (near n 1)
 unfolding near
-near-error n = go (drop 24 n 1) refl
+near_error n = go (drop 24 n 1) refl
   where
     go : (k : ℕ) → size (n / 1) - 24 ≡ k → Error n (closest n (1 * 2 ^ k) * 2 ^ k)
-    go zero e = let f : closest n 1 * 1 ≡ n = mul-one (closest n 1) ∙ closest-whole n in (omega arith, omega arith)
+    go zero e = let f : closest n 1 * 1 ≡ n = mul-one (closest n 1) ∙ closest_whole n in (omega arith, omega arith)
     go (suc k) e =
-        dropped n (suc k) (closest n (1 * 2 ^ suc k)) (closest-half n (1 * 2 ^ suc k) (mul-pos (pow_pos 0) (pow_pos (suc k))))
+        dropped n (suc k) (closest n (1 * 2 ^ suc k)) (closest_half n (1 * 2 ^ suc k) (mul-pos (pow_pos 0) (pow_pos (suc k))))
         (le_trans (le_of_eq (sym (pow-add 2 23 (suc k)))) (le_trans (size_reaches (n / 1) (23 + suc k) (omega arith)) (le_of_eq (div-one n))))

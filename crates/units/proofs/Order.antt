@@ -1,4 +1,4 @@
--- Two finite binary32 values compare as their units: x < y is plus x + minus y < plus y + minus x (`lt-is`), and x = y and x ≤ y are the same with = and ≤ (`eq-is`, `le-is`).
+-- Two finite binary32 values compare as their units: x < y is plus x + minus y < plus y + minus x (`lt_is`), and x = y and x ≤ y are the same with = and ≤ (`eq_is`, `le_is`).
 -- `lt` and `eq` bring the two sizes to one divisor and compare the numerators; where the signs differ, 0 and their sum. Numerators over one divisor compare as the units do. Assumes nothing.
 use mathlib.Core.Path.{◌≡◌, refl, sym, ap, ◌∙◌}
 use mathlib.Core.Bool.{Bool, true, false, cond, ◌&&◌, ◌||◌}
@@ -12,29 +12,29 @@ use lib.IntN.{ℤ}
 use lib.Ieee.{Float, nan, inf, fin, binary32, up, down, below, level, lt, eq, le, fits}
 use lib.Ieee.Fits.{down_pos, eq→eqb, and_i, and_l, and_r}
 use Rattle.elementary.specs.Units.{mag}
-use Rattle.elementary.proofs.Patterns.{le-or-lt}
+use Rattle.elementary.proofs.Patterns.{le_or_lt}
 use Rattle.units.specs.Units.{Number, one, plus, minus}
 use Rattle.units.proofs.Rounded.{whole, ordered}
-use Rattle.units.proofs.Held.{one-pos}
+use Rattle.units.proofs.Held.{one_pos}
 
 -- ---- tests
 
-same-test : (b c : Bool) → (T b → T c) → (T c → T b) → b ≡ c
-same-test true true h k = refl
-same-test true false h k = absurd (h tt)
-same-test false true h k = absurd (k tt)
-same-test false false h k = refl
+same_test : (b c : Bool) → (T b → T c) → (T c → T b) → b ≡ c
+same_test true true h k = refl
+same_test true false h k = absurd (h tt)
+same_test false true h k = absurd (k tt)
+same_test false false h k = refl
 
-eqb-comm : (a b : ℕ) → eqb a b ≡ eqb b a
-eqb-comm a b = same-test (eqb a b) (eqb b a) (λ t. eq→eqb (sym (eqb→eq a b t))) (λ t. eq→eqb (sym (eqb→eq b a t)))
+eqb_comm : (a b : ℕ) → eqb a b ≡ eqb b a
+eqb_comm a b = same_test (eqb a b) (eqb b a) (λ t. eq→eqb (sym (eqb→eq a b t))) (λ t. eq→eqb (sym (eqb→eq b a t)))
 
-and-true : (b : Bool) → (b && true) ≡ b
-and-true true = refl
-and-true false = refl
+and_true : (b : Bool) → (b && true) ≡ b
+and_true true = refl
+and_true false = refl
 
 -- both are 0
 zeros : (a b : ℕ) → (eqb a b && eqb a 0) ≡ eqb 0 (a + b)
-zeros a b = same-test (eqb a b && eqb a 0) (eqb 0 (a + b)) forth (λ t. back (eqb→eq 0 (a + b) t))
+zeros a b = same_test (eqb a b && eqb a 0) (eqb 0 (a + b)) forth (λ t. back (eqb→eq 0 (a + b) t))
   where
     forth : T (eqb a b && eqb a 0) → T (eqb 0 (a + b))
     forth t =
@@ -49,15 +49,15 @@ zeros a b = same-test (eqb a b && eqb a 0) (eqb 0 (a + b)) forth (λ t. back (eq
         let z : a ≡ 0 = omega arith in
         and_i (eqb a b) (eqb a 0) (eq→eqb e) (eq→eqb z)
 
-leb-is : (p q : ℕ) → (ltb p q || eqb p q) ≡ leb p q
-leb-is p q = elim (le-or-lt p q) [ inl h ↦ at-most h (eq-or-lt_of_le h) | inr g ↦ rw (le-ltb p q (le_of_lt g), ne_eqb p q (λ e. apart g e), lt-leb p q g) ]
+leb_is : (p q : ℕ) → (ltb p q || eqb p q) ≡ leb p q
+leb_is p q = elim (le_or_lt p q) [ inl h ↦ at_most_lem h (eq-or-lt_of_le h) | inr g ↦ rw (le-ltb p q (le_of_lt g), ne_eqb p q (λ e. apart g e), lt-leb p q g) ]
   where
     apart : q < p → p ≡ q → ⊥
     apart g e = omega arith
 
-    at-most : p ≤ q → (p ≡ q) ⊎ (p < q) → (ltb p q || eqb p q) ≡ leb p q
-    at-most h (inl e) = rw (le-ltb p q (le_of_eq (sym e)), eq-eqb p q e, le-leb p q h)
-    at-most h (inr l) = rw (lt-ltb p q l, le-leb p q h)
+    at_most_lem : p ≤ q → (p ≡ q) ⊎ (p < q) → (ltb p q || eqb p q) ≡ leb p q
+    at_most_lem h (inl e) = rw (le-ltb p q (le_of_eq (sym e)), eq-eqb p q e, le-leb p q h)
+    at_most_lem h (inr l) = rw (lt-ltb p q l, le-leb p q h)
 
 -- ---- a and b are x and y units, in parts of c
 
@@ -69,17 +69,17 @@ module _ {a b c x y : ℕ} (C : 0 < c) (A : Counts c a x) (B : Counts c b y) whe
   forth h = ordered a b c x y C A.is B.is h
 
   back : x ≤ y → a ≤ b
-  back h = le_of_mul-le-mul_right (le_trans (le_of_eq A.is) (le_trans (mul-le-mul_right c h) (le_of_eq (sym B.is)))) one-pos
+  back h = le_of_mul-le-mul_right (le_trans (le_of_eq A.is) (le_trans (mul-le-mul_right c h) (le_of_eq (sym B.is)))) one_pos
 
 module _ {a b c x y : ℕ} (C : 0 < c) (A : Counts c a x) (B : Counts c b y) where
-  lt-same : ltb a b ≡ ltb x y
-  lt-same =
-      same-test (ltb a b) (ltb x y) (λ t. lt→ltb x y (lt_of_not-le (λ (k : y ≤ x). not-le_of_lt (ltb→lt a b t) (back C B A k))))
+  lt_same : ltb a b ≡ ltb x y
+  lt_same =
+      same_test (ltb a b) (ltb x y) (λ t. lt→ltb x y (lt_of_not-le (λ (k : y ≤ x). not-le_of_lt (ltb→lt a b t) (back C B A k))))
       (λ t. lt→ltb a b (lt_of_not-le (λ (k : b ≤ a). not-le_of_lt (ltb→lt x y t) (forth C B A k))))
 
-  eq-same : eqb a b ≡ eqb x y
-  eq-same =
-      same-test (eqb a b) (eqb x y) (λ t. let h = eqb→eq a b t in eq→eqb (le_antisymm (forth C A B (le_of_eq h)) (forth C B A (le_of_eq (sym h)))))
+  eq_same : eqb a b ≡ eqb x y
+  eq_same =
+      same_test (eqb a b) (eqb x y) (λ t. let h = eqb→eq a b t in eq→eqb (le_antisymm (forth C A B (le_of_eq h)) (forth C B A (le_of_eq (sym h)))))
       (λ t. let h = eqb→eq x y t in eq→eqb (le_antisymm (back C A B (le_of_eq h)) (back C B A (le_of_eq (sym h)))))
 
 module _ {a b c x y : ℕ} (C : 0 < c) (A : Counts c a x) (B : Counts c b y) where
@@ -89,17 +89,17 @@ module _ {a b c x y : ℕ} (C : 0 < c) (A : Counts c a x) (B : Counts c b y) whe
   both : Counts c (a + b) (x + y)
   both = record { is = add-mul a b one ∙ cc (A.is, B.is) ∙ sym (add-mul x y c) }
 
-  lt-signed : (s t : Bool) → below s a t b ≡ ltb (cond s 0 x + cond t y 0) (cond t 0 y + cond s x 0)
-  lt-signed false false = rw (add-zero x, add-zero y) (lt-same C A B)
-  lt-signed false true = sym (le-ltb (x + y) 0 (omega arith))
-  lt-signed true false = rw (add_comm y x) (lt-same C none both)
-  lt-signed true true = rw (zero-add x, zero-add y) (lt-same C B A)
+  lt_signed : (s t : Bool) → below s a t b ≡ ltb (cond s 0 x + cond t y 0) (cond t 0 y + cond s x 0)
+  lt_signed false false = rw (add-zero x, add-zero y) (lt_same C A B)
+  lt_signed false true = sym (le-ltb (x + y) 0 (omega arith))
+  lt_signed true false = rw (add_comm y x) (lt_same C none both)
+  lt_signed true true = rw (zero-add x, zero-add y) (lt_same C B A)
 
-  eq-signed : (s t : Bool) → level s a t b ≡ eqb (cond s 0 x + cond t y 0) (cond t 0 y + cond s x 0)
-  eq-signed false false = rw (add-zero x, add-zero y) (and-true (eqb a b) ∙ eq-same C A B)
-  eq-signed false true = zeros a b ∙ eq-same C none both ∙ eqb-comm 0 (x + y)
-  eq-signed true false = rw (add_comm y x) (zeros a b ∙ eq-same C none both)
-  eq-signed true true = rw (zero-add x, zero-add y) (and-true (eqb a b) ∙ eqb-comm a b ∙ eq-same C B A)
+  eq_signed : (s t : Bool) → level s a t b ≡ eqb (cond s 0 x + cond t y 0) (cond t 0 y + cond s x 0)
+  eq_signed false false = rw (add-zero x, add-zero y) (and_true (eqb a b) ∙ eq_same C A B)
+  eq_signed false true = zeros a b ∙ eq_same C none both ∙ eqb_comm 0 (x + y)
+  eq_signed true false = rw (add_comm y x) (zeros a b ∙ eq_same C none both)
+  eq_signed true true = rw (zero-add x, zero-add y) (and_true (eqb a b) ∙ eqb_comm a b ∙ eq_same C B A)
 
 -- ---- two finite values
 
@@ -110,25 +110,25 @@ left s m e d u = record { is = mul_right_comm (m * up e) (down d) one ∙ ap (λ
 right : (t : Bool) (n : ℕ) (e d : ℤ) → T (fits binary32 (fin t n d)) → Counts (down e * down d) (n * up d * down e) (mag (fin t n d))
 right t n e d v = record { is = (left t n d e v).is ∙ ap (λ (k : ℕ). mag (fin t n d) * k) (mul_comm (down d) (down e)) }
 
-pub lt-is : (x y : Float) → Number x → Number y → lt x y ≡ ltb (plus x + minus y) (plus y + minus x)
+pub lt_is : (x y : Float) → Number x → Number y → lt x y ≡ ltb (plus x + minus y) (plus y + minus x)
 unfolding lt plus minus
-lt-is nan y X Y = absurd X.is-finite
-lt-is (inf s) y X Y = absurd X.is-finite
-lt-is (fin s m e) nan X Y = absurd Y.is-finite
-lt-is (fin s m e) (inf t) X Y = absurd Y.is-finite
-lt-is (fin s m e) (fin t n d) X Y = lt-signed (mul-pos (down_pos e) (down_pos d)) (left s m e d X.holds) (right t n e d Y.holds) s t
+lt_is nan y X Y = absurd X.is_finite
+lt_is (inf s) y X Y = absurd X.is_finite
+lt_is (fin s m e) nan X Y = absurd Y.is_finite
+lt_is (fin s m e) (inf t) X Y = absurd Y.is_finite
+lt_is (fin s m e) (fin t n d) X Y = lt_signed (mul-pos (down_pos e) (down_pos d)) (left s m e d X.holds) (right t n e d Y.holds) s t
 
-pub eq-is : (x y : Float) → Number x → Number y → eq x y ≡ eqb (plus x + minus y) (plus y + minus x)
+pub eq_is : (x y : Float) → Number x → Number y → eq x y ≡ eqb (plus x + minus y) (plus y + minus x)
 unfolding eq plus minus
-eq-is nan y X Y = absurd X.is-finite
-eq-is (inf s) y X Y = absurd X.is-finite
-eq-is (fin s m e) nan X Y = absurd Y.is-finite
-eq-is (fin s m e) (inf t) X Y = absurd Y.is-finite
-eq-is (fin s m e) (fin t n d) X Y = eq-signed (mul-pos (down_pos e) (down_pos d)) (left s m e d X.holds) (right t n e d Y.holds) s t
+eq_is nan y X Y = absurd X.is_finite
+eq_is (inf s) y X Y = absurd X.is_finite
+eq_is (fin s m e) nan X Y = absurd Y.is_finite
+eq_is (fin s m e) (inf t) X Y = absurd Y.is_finite
+eq_is (fin s m e) (fin t n d) X Y = eq_signed (mul-pos (down_pos e) (down_pos d)) (left s m e d X.holds) (right t n e d Y.holds) s t
 
-pub le-is : (x y : Float) → Number x → Number y → le x y ≡ leb (plus x + minus y) (plus y + minus x)
+pub le_is : (x y : Float) → Number x → Number y → le x y ≡ leb (plus x + minus y) (plus y + minus x)
 unfolding le
-le-is x y X Y = rw (lt-is x y X Y, eq-is x y X Y) (leb-is (plus x + minus y) (plus y + minus x))
+le_is x y X Y = rw (lt_is x y X Y, eq_is x y X Y) (leb_is (plus x + minus y) (plus y + minus x))
 
 -- ---- what the tests say, of two numbers
 
@@ -140,20 +140,20 @@ abbrev pub Under : Float → Float → Type 0
 Under x y = plus x + minus y < plus y + minus x
 
 module _ {x y : Float} (X : Number x) (Y : Number y) where
-  pub lt-true : lt x y ≡ true → Under x y
-  lt-true h = ltb-true (plus x + minus y) (plus y + minus x) (sym (lt-is x y X Y) ∙ h)
+  pub lt_true : lt x y ≡ true → Under x y
+  lt_true h = ltb-true (plus x + minus y) (plus y + minus x) (sym (lt_is x y X Y) ∙ h)
 
-  pub le-true : le x y ≡ true → AtMost x y
-  le-true h = leb-true (plus x + minus y) (plus y + minus x) (sym (le-is x y X Y) ∙ h)
+  pub le_true : le x y ≡ true → AtMost x y
+  le_true h = leb-true (plus x + minus y) (plus y + minus x) (sym (le_is x y X Y) ∙ h)
 
-  pub le-false : le x y ≡ false → Under y x
-  le-false h = leb-false (plus x + minus y) (plus y + minus x) (sym (le-is x y X Y) ∙ h)
+  pub le_false : le x y ≡ false → Under y x
+  le_false h = leb-false (plus x + minus y) (plus y + minus x) (sym (le_is x y X Y) ∙ h)
 
-  pub at-most-le : AtMost x y → le x y ≡ true
-  at-most-le h = le-is x y X Y ∙ le-leb (plus x + minus y) (plus y + minus x) h
+  pub at_most_le : AtMost x y → le x y ≡ true
+  at_most_le h = le_is x y X Y ∙ le-leb (plus x + minus y) (plus y + minus x) h
 
-  pub under-le : Under y x → le x y ≡ false
-  under-le h = le-is x y X Y ∙ lt-leb (plus x + minus y) (plus y + minus x) h
+  pub under_le : Under y x → le x y ≡ false
+  under_le h = le_is x y X Y ∙ lt-leb (plus x + minus y) (plus y + minus x) h
 
-  pub eq-true : eq x y ≡ true → plus x + minus y ≡ plus y + minus x
-  eq-true h = eqb-true (plus x + minus y) (plus y + minus x) (sym (eq-is x y X Y) ∙ h)
+  pub eq_true : eq x y ≡ true → plus x + minus y ≡ plus y + minus x
+  eq_true h = eqb-true (plus x + minus y) (plus y + minus x) (sym (eq_is x y X Y) ∙ h)

@@ -16,9 +16,9 @@ use lib.Ieee.Exact.{HasValue, units_val}
 use lib.Ieee.Order.{drop, kept}
 use lib.Ieee.Scale.{finite}
 use Rattle.elementary.specs.Units.{mag}
-use Rattle.elementary.proofs.Magnitude.{mag-at, mag-exact}
+use Rattle.elementary.proofs.Magnitude.{mag_at, mag_exact}
 use Rattle.units.specs.Units.{Number, one, plus, minus}
-use Rattle.units.proofs.Near.{near, near-same, near-zero}
+use Rattle.units.proofs.Near.{near, near_same, near_zero}
 
 -- from 2 ^ 128 on a value is an infinity: that number in units
 unfoldable pub cap : ℕ
@@ -26,22 +26,22 @@ cap = 2 ^ 277
 
 -- ---- what `round` makes
 
-round-value : (s : Bool) (a c : ℕ) → near (a * one) c < cap → HasValue (round binary32 s a c) s (near (a * one) c) one
+round_value : (s : Bool) (a c : ℕ) → near (a * one) c < cap → HasValue (round binary32 s a c) s (near (a * one) c) one
 unfolding near one cap
-round-value s a c h =
+round_value s a c h =
     subst (λ (z : Float). HasValue z s (near (a * one) c) one) (sym (round_is binary32 s a c)) (units_val binary32 s (kept 24 (a * one) c) (drop 24 (a * one) c) h)
 
-units-under : (s : Bool) (q k : ℕ) → T (finite (units binary32 s q k)) → q * 2 ^ k < cap
+units_under : (s : Bool) (q k : ℕ) → T (finite (units binary32 s q k)) → q * 2 ^ k < cap
 unfolding units cap
-units-under s q k = go (ltb (q * 2 ^ k) cap) (ltb→lt (q * 2 ^ k) cap)
+units_under s q k = go (ltb (q * 2 ^ k) cap) (ltb→lt (q * 2 ^ k) cap)
   where
     go : (b : Bool) → (T b → q * 2 ^ k < cap) → T (finite (cond b (odd 25 s q k 149) (inf s))) → q * 2 ^ k < cap
     go true h t = h tt
     go false h t = absurd t
 
-round-under : (s : Bool) (a c : ℕ) → T (finite (round binary32 s a c)) → near (a * one) c < cap
+round_under : (s : Bool) (a c : ℕ) → T (finite (round binary32 s a c)) → near (a * one) c < cap
 unfolding near one
-round-under s a c t = units-under s (kept 24 (a * one) c) (drop 24 (a * one) c) (subst (λ (z : Float). T (finite z)) (round_is binary32 s a c) t)
+round_under s a c t = units_under s (kept 24 (a * one) c) (drop 24 (a * one) c) (subst (λ (z : Float). T (finite z)) (round_is binary32 s a c) t)
 
 -- ---- the exact value, rounded
 
@@ -50,24 +50,24 @@ pub record Rounded (z : Float) (p m w : ℕ) : Type 0 where
   pub num : ℕ
   pub den : ℕ
   pub is : z ≡ round binary32 sign num den
-  pub den-pos : 0 < den
+  pub den_pos : 0 < den
   pub same : num * one * w ≡ cond sign m p * den
   pub other : cond sign p m ≡ 0
 
 -- z's units
 pub record Value (z : Float) (p m : ℕ) : Type 0 where
-  pub is-finite : T (finite z)
-  pub is-plus : plus z ≡ p
-  pub is-minus : minus z ≡ m
+  pub is_finite : T (finite z)
+  pub is_plus : plus z ≡ p
+  pub is_minus : minus z ≡ m
 
-value-of : (z : Float) (s : Bool) (p m : ℕ) → HasValue z s (cond s m p) one → cond s p m ≡ 0 → Value z p m
+value_of : (z : Float) (s : Bool) (p m : ℕ) → HasValue z s (cond s m p) one → cond s p m ≡ 0 → Value z p m
 unfolding plus minus one
-value-of nan s p m v o = absurd v
-value-of (inf t) s p m v o = absurd v
-value-of (fin true n e) true p m v o = record { is-finite = tt; is-plus = sym o; is-minus = mag-at (fin true n e) true m v }
-value-of (fin true n e) false p m v o = absurd (true≢false v.0)
-value-of (fin false n e) true p m v o = absurd (false≢true v.0)
-value-of (fin false n e) false p m v o = record { is-finite = tt; is-plus = mag-at (fin false n e) false p v; is-minus = sym o }
+value_of nan s p m v o = absurd v
+value_of (inf t) s p m v o = absurd v
+value_of (fin true n e) true p m v o = record { is_finite = tt; is_plus = sym o; is_minus = mag_at (fin true n e) true m v }
+value_of (fin true n e) false p m v o = absurd (true≢false v.0)
+value_of (fin false n e) true p m v o = absurd (false≢true v.0)
+value_of (fin false n e) false p m v o = record { is_finite = tt; is_plus = mag_at (fin false n e) false p v; is_minus = sym o }
 
 pub value : (z : Float) (p m w : ℕ) → Rounded z p m w → 0 < w → near p w < cap → near m w < cap → Value z (near p w) (near m w)
 value z p m w r W P M = subst (λ (x : Float). Value x (near p w) (near m w)) (sym r.is) (go r.sign r.same r.other)
@@ -80,38 +80,38 @@ value z p m w r W P M = subst (λ (x : Float). Value x (near p w) (near m w)) (s
 
     at : (s : Bool) (n : ℕ) → a * one * w ≡ n * c → near n w < cap → HasValue (round binary32 s a c) s (near n w) one
     at s n e N =
-        let f : near (a * one) c ≡ near n w = near-same (a * one) c n w r.den-pos W e in
-        subst (λ (k : ℕ). HasValue (round binary32 s a c) s k one) f (round-value s a c (subst (λ (k : ℕ). k < cap) (sym f) N))
+        let f : near (a * one) c ≡ near n w = near_same (a * one) c n w r.den_pos W e in
+        subst (λ (k : ℕ). HasValue (round binary32 s a c) s k one) f (round_value s a c (subst (λ (k : ℕ). k < cap) (sym f) N))
 
     none : (n : ℕ) → n ≡ 0 → near n w ≡ 0
-    none n o = ap (λ (k : ℕ). near k w) o ∙ near-zero w W
+    none n o = ap (λ (k : ℕ). near k w) o ∙ near_zero w W
 
     go : (s : Bool) → a * one * w ≡ cond s m p * c → cond s p m ≡ 0 → Value (round binary32 s a c) (near p w) (near m w)
-    go true e o = value-of (round binary32 true a c) true (near p w) (near m w) (at true m e M) (none p o)
-    go false e o = value-of (round binary32 false a c) false (near p w) (near m w) (at false p e P) (none m o)
+    go true e o = value_of (round binary32 true a c) true (near p w) (near m w) (at true m e M) (none p o)
+    go false e o = value_of (round binary32 false a c) false (near p w) (near m w) (at false p e P) (none m o)
 
-pub cap-pos : 0 < cap
+pub cap_pos : 0 < cap
 unfolding cap
-cap-pos = pow_pos 277
+cap_pos = pow_pos 277
 
 pub under : (z : Float) (p m w : ℕ) → Rounded z p m w → 0 < w → T (finite z) → (near p w < cap) × (near m w < cap)
-under z p m w r W t = go r.sign r.same r.other (round-under r.sign r.num r.den (subst (λ (x : Float). T (finite x)) r.is t))
+under z p m w r W t = go r.sign r.same r.other (round_under r.sign r.num r.den (subst (λ (x : Float). T (finite x)) r.is t))
   where
     go : (s : Bool) → r.num * one * w ≡ cond s m p * r.den → cond s p m ≡ 0 → near (r.num * one) r.den < cap → (near p w < cap) × (near m w < cap)
     go true e o h = (
-      subst (λ (x : ℕ). x < cap) (sym (ap (λ (x : ℕ). near x w) o ∙ near-zero w W)) cap-pos,
-      subst (λ (x : ℕ). x < cap) (near-same (r.num * one) r.den m w r.den-pos W e) h,
+      subst (λ (x : ℕ). x < cap) (sym (ap (λ (x : ℕ). near x w) o ∙ near_zero w W)) cap_pos,
+      subst (λ (x : ℕ). x < cap) (near_same (r.num * one) r.den m w r.den_pos W e) h,
     )
     go false e o h = (
-      subst (λ (x : ℕ). x < cap) (near-same (r.num * one) r.den p w r.den-pos W e) h,
-      subst (λ (x : ℕ). x < cap) (sym (ap (λ (x : ℕ). near x w) o ∙ near-zero w W)) cap-pos,
+      subst (λ (x : ℕ). x < cap) (near_same (r.num * one) r.den p w r.den_pos W e) h,
+      subst (λ (x : ℕ). x < cap) (sym (ap (λ (x : ℕ). near x w) o ∙ near_zero w W)) cap_pos,
     )
 
 -- ---- a value that binary32 holds is a whole number of units
 
 pub whole : (s : Bool) (m : ℕ) (e : ℤ) → T (fits binary32 (fin s m e)) → m * up e * one ≡ mag (fin s m e) * down e
 unfolding one
-whole s m e t = (mag-exact s m e t).1
+whole s m e t = (mag_exact s m e t).1
 
 -- ---- sums
 
@@ -127,68 +127,68 @@ pub ordered : (a b c x y : ℕ) → 0 < c → a * one ≡ x * c → b * one ≡ 
 ordered a b c x y C e f h = le_of_mul-le-mul_right (le_trans (le_of_eq (sym e)) (le_trans (mul-le-mul_right one h) (le_of_eq f))) C
 
 -- what makes a `Rounded`, of a whole number of units
-whole-of : (s : Bool) (a c p m n : ℕ) → 0 < c → a * one ≡ n * c → n ≡ cond s m p → cond s p m ≡ 0 → Rounded (round binary32 s a c) p m 1
-whole-of s a c p m n C e f o =
-    record { sign = s; num = a; den = c; is = refl; den-pos = C; same = mul-one (a * one) ∙ e ∙ ap (λ (x : ℕ). x * c) f; other = o }
+whole_of : (s : Bool) (a c p m n : ℕ) → 0 < c → a * one ≡ n * c → n ≡ cond s m p → cond s p m ≡ 0 → Rounded (round binary32 s a c) p m 1
+whole_of s a c p m n C e f o =
+    record { sign = s; num = a; den = c; is = refl; den_pos = C; same = mul-one (a * one) ∙ e ∙ ap (λ (x : ℕ). x * c) f; other = o }
 
-sum-rounded : (s t : Bool) (a b c x y : ℕ) → 0 < c → a * one ≡ x * c → b * one ≡ y * c
+sum_rounded : (s t : Bool) (a b c x y : ℕ) → 0 < c → a * one ≡ x * c → b * one ≡ y * c
     → Rounded (sum binary32 s a t b c) (cond s 0 x + cond t 0 y - (cond s x 0 + cond t y 0)) (cond s x 0 + cond t y 0 - (cond s 0 x + cond t 0 y)) 1
 unfolding sum
-sum-rounded false false a b c x y C e f =
-    whole-of false (a + b) c (x + y - 0) (0 - (x + y)) (x + y) C (add-mul a b one ∙ cc (e, f) ∙ sym (add-mul x y c)) (omega arith) (omega arith)
-sum-rounded true true a b c x y C e f =
-    whole-of true (a + b) c (0 - (x + y)) (x + y - 0) (x + y) C (add-mul a b one ∙ cc (e, f) ∙ sym (add-mul x y c)) (omega arith) (omega arith)
-sum-rounded false true a b c x y C e f = go (ltb a b) (ltb→lt a b) (nltb→le a b)
+sum_rounded false false a b c x y C e f =
+    whole_of false (a + b) c (x + y - 0) (0 - (x + y)) (x + y) C (add-mul a b one ∙ cc (e, f) ∙ sym (add-mul x y c)) (omega arith) (omega arith)
+sum_rounded true true a b c x y C e f =
+    whole_of true (a + b) c (0 - (x + y)) (x + y - 0) (x + y) C (add-mul a b one ∙ cc (e, f) ∙ sym (add-mul x y c)) (omega arith) (omega arith)
+sum_rounded false true a b c x y C e f = go (ltb a b) (ltb→lt a b) (nltb→le a b)
   where
     go : (d : Bool) → (T d → a < b) → (T (not d) → b ≤ a) → Rounded (cond d (round binary32 true (b - a) c) (round binary32 false (a - b) c)) (x + 0 - (0 + y)) (0 + y - (x + 0)) 1
     go true h k =
         let l = ordered a b c x y C e f (le_of_lt (h tt)) in
-        whole-of true (b - a) c (x + 0 - (0 + y)) (0 + y - (x + 0)) (y - x) C (apart b a c y x f e) (omega arith) (omega arith)
+        whole_of true (b - a) c (x + 0 - (0 + y)) (0 + y - (x + 0)) (y - x) C (apart b a c y x f e) (omega arith) (omega arith)
     go false h k =
         let l = ordered b a c y x C f e (k tt) in
-        whole-of false (a - b) c (x + 0 - (0 + y)) (0 + y - (x + 0)) (x - y) C (apart a b c x y e f) (omega arith) (omega arith)
-sum-rounded true false a b c x y C e f = go (ltb a b) (ltb→lt a b) (nltb→le a b) (ltb b a) (nltb→le b a)
+        whole_of false (a - b) c (x + 0 - (0 + y)) (0 + y - (x + 0)) (x - y) C (apart a b c x y e f) (omega arith) (omega arith)
+sum_rounded true false a b c x y C e f = go (ltb a b) (ltb→lt a b) (nltb→le a b) (ltb b a) (nltb→le b a)
   where
     go : (d : Bool) → (T d → a < b) → (T (not d) → b ≤ a) → (g : Bool) → (T (not g) → a ≤ b)
         → Rounded (cond d (round binary32 false (b - a) c) (round binary32 g (a - b) c)) (0 + y - (x + 0)) (x + 0 - (0 + y)) 1
     go true h k g i =
         let l = ordered a b c x y C e f (le_of_lt (h tt)) in
-        whole-of false (b - a) c (0 + y - (x + 0)) (x + 0 - (0 + y)) (y - x) C (apart b a c y x f e) (omega arith) (omega arith)
+        whole_of false (b - a) c (0 + y - (x + 0)) (x + 0 - (0 + y)) (y - x) C (apart b a c y x f e) (omega arith) (omega arith)
     go false h k true i =
         let l = ordered b a c y x C f e (k tt) in
-        whole-of true (a - b) c (0 + y - (x + 0)) (x + 0 - (0 + y)) (x - y) C (apart a b c x y e f) (omega arith) (omega arith)
+        whole_of true (a - b) c (0 + y - (x + 0)) (x + 0 - (0 + y)) (x - y) C (apart a b c x y e f) (omega arith) (omega arith)
     go false h k false i =
         let l = ordered b a c y x C f e (k tt) in
         let n = ordered a b c x y C e f (i tt) in
-        whole-of false (a - b) c (0 + y - (x + 0)) (x + 0 - (0 + y)) (x - y) C (apart a b c x y e f) (omega arith) (omega arith)
+        whole_of false (a - b) c (0 + y - (x + 0)) (x + 0 - (0 + y)) (x - y) C (apart a b c x y e f) (omega arith) (omega arith)
 
-pub add-rounded : (x y : Float) → Number x → Number y
+pub add_rounded : (x y : Float) → Number x → Number y
     → Rounded (add binary32 x y) (plus x + plus y - (minus x + minus y)) (minus x + minus y - (plus x + plus y)) 1
 unfolding add plus minus
-add-rounded nan y X Y = absurd X.is-finite
-add-rounded (inf s) y X Y = absurd X.is-finite
-add-rounded (fin s m e) nan X Y = absurd Y.is-finite
-add-rounded (fin s m e) (inf t) X Y = absurd Y.is-finite
-add-rounded (fin s m e) (fin t n d) X Y =
-    sum-rounded s t (m * up e * down d) (n * up d * down e) (down e * down d) (mag (fin s m e)) (mag (fin t n d)) (mul-pos (down_pos e) (down_pos d))
+add_rounded nan y X Y = absurd X.is_finite
+add_rounded (inf s) y X Y = absurd X.is_finite
+add_rounded (fin s m e) nan X Y = absurd Y.is_finite
+add_rounded (fin s m e) (inf t) X Y = absurd Y.is_finite
+add_rounded (fin s m e) (fin t n d) X Y =
+    sum_rounded s t (m * up e * down d) (n * up d * down e) (down e * down d) (mag (fin s m e)) (mag (fin t n d)) (mul-pos (down_pos e) (down_pos d))
     (mul_right_comm (m * up e) (down d) one ∙ ap (λ (k : ℕ). k * down d) (whole s m e X.holds) ∙ mul_assoc (mag (fin s m e)) (down e) (down d))
     (mul_right_comm (n * up d) (down e) one ∙ ap (λ (k : ℕ). k * down e) (whole t n d Y.holds) ∙ mul_assoc (mag (fin t n d)) (down d) (down e) ∙ ap (λ (k : ℕ). mag (fin t n d) * k) (mul_comm (down d) (down e)))
 
 -- ---- products
 
 -- what makes a `Rounded`, of a fraction n / w
-part-of : (s : Bool) (a c p m n w : ℕ) → 0 < c → a * one * w ≡ n * c → n ≡ cond s m p → cond s p m ≡ 0 → Rounded (round binary32 s a c) p m w
-part-of s a c p m n w C e f o =
-    record { sign = s; num = a; den = c; is = refl; den-pos = C; same = e ∙ ap (λ (x : ℕ). x * c) f; other = o }
+part_of : (s : Bool) (a c p m n w : ℕ) → 0 < c → a * one * w ≡ n * c → n ≡ cond s m p → cond s p m ≡ 0 → Rounded (round binary32 s a c) p m w
+part_of s a c p m n w C e f o =
+    record { sign = s; num = a; den = c; is = refl; den_pos = C; same = e ∙ ap (λ (x : ℕ). x * c) f; other = o }
 
-pub mul-rounded : (x y : Float) → Number x → Number y
+pub mul_rounded : (x y : Float) → Number x → Number y
     → Rounded (mul binary32 x y) (plus x * plus y + minus x * minus y) (plus x * minus y + minus x * plus y) one
 unfolding mul plus minus
-mul-rounded nan y X Y = absurd X.is-finite
-mul-rounded (inf s) y X Y = absurd X.is-finite
-mul-rounded (fin s m e) nan X Y = absurd Y.is-finite
-mul-rounded (fin s m e) (inf t) X Y = absurd Y.is-finite
-mul-rounded (fin s m e) (fin t n d) X Y = go s t
+mul_rounded nan y X Y = absurd X.is_finite
+mul_rounded (inf s) y X Y = absurd X.is_finite
+mul_rounded (fin s m e) nan X Y = absurd Y.is_finite
+mul_rounded (fin s m e) (inf t) X Y = absurd Y.is_finite
+mul_rounded (fin s m e) (fin t n d) X Y = go s t
   where
     x : ℕ
     x = mag (fin s m e)
@@ -204,22 +204,22 @@ mul-rounded (fin s m e) (fin t n d) X Y = go s t
         ∙ mul-mul-mul_comm x (down e) y (down d)
 
     go : (a b : Bool) → Rounded (round binary32 (unlike a b) (m * up e * (n * up d)) (down e * down d)) (cond a 0 x * cond b 0 y + cond a x 0 * cond b y 0) (cond a 0 x * cond b y 0 + cond a x 0 * cond b 0 y) one
-    go false false = part-of false _ (down e * down d) (x * y + 0 * 0) (x * 0 + 0 * y) (x * y) one (mul-pos (down_pos e) (down_pos d)) sizes (omega arith) (omega arith)
-    go false true = part-of true _ (down e * down d) (x * 0 + 0 * y) (x * y + 0 * 0) (x * y) one (mul-pos (down_pos e) (down_pos d)) sizes (omega arith) (omega arith)
-    go true false = part-of true _ (down e * down d) (0 * y + x * 0) (0 * 0 + x * y) (x * y) one (mul-pos (down_pos e) (down_pos d)) sizes (omega arith) (omega arith)
-    go true true = part-of false _ (down e * down d) (0 * 0 + x * y) (0 * y + x * 0) (x * y) one (mul-pos (down_pos e) (down_pos d)) sizes (omega arith) (omega arith)
+    go false false = part_of false _ (down e * down d) (x * y + 0 * 0) (x * 0 + 0 * y) (x * y) one (mul-pos (down_pos e) (down_pos d)) sizes (omega arith) (omega arith)
+    go false true = part_of true _ (down e * down d) (x * 0 + 0 * y) (x * y + 0 * 0) (x * y) one (mul-pos (down_pos e) (down_pos d)) sizes (omega arith) (omega arith)
+    go true false = part_of true _ (down e * down d) (0 * y + x * 0) (0 * 0 + x * y) (x * y) one (mul-pos (down_pos e) (down_pos d)) sizes (omega arith) (omega arith)
+    go true true = part_of false _ (down e * down d) (0 * 0 + x * y) (0 * y + x * 0) (x * y) one (mul-pos (down_pos e) (down_pos d)) sizes (omega arith) (omega arith)
 
 -- ---- quotients, by a y above zero
 
-pub div-rounded : (x y : Float) → Number x → Number y → 0 < plus y
+pub div_rounded : (x y : Float) → Number x → Number y → 0 < plus y
     → Rounded (div binary32 x y) (plus x * one) (minus x * one) (plus y)
 unfolding div plus minus
-div-rounded nan y X Y o = absurd X.is-finite
-div-rounded (inf s) y X Y o = absurd X.is-finite
-div-rounded (fin s m e) nan X Y o = absurd Y.is-finite
-div-rounded (fin s m e) (inf t) X Y o = absurd Y.is-finite
-div-rounded (fin s m e) (fin true n d) X Y o = absurd (lt_irrefl 0 o)
-div-rounded (fin s m e) (fin false n d) X Y o =
+div_rounded nan y X Y o = absurd X.is_finite
+div_rounded (inf s) y X Y o = absurd X.is_finite
+div_rounded (fin s m e) nan X Y o = absurd Y.is_finite
+div_rounded (fin s m e) (inf t) X Y o = absurd Y.is_finite
+div_rounded (fin s m e) (fin true n d) X Y o = absurd (lt_irrefl 0 o)
+div_rounded (fin s m e) (fin false n d) X Y o =
     subst (λ (z : Float). Rounded z (cond s 0 x * one) (cond s x 0 * one) y) (sym (cond_no (eqb n 0) _ _ (not_T (eqb n 0) (λ k. none (eqb→eq n 0 k))))) (go s)
   where
     x : ℕ
@@ -243,5 +243,5 @@ div-rounded (fin s m e) (fin false n d) X Y o =
         ∙ ap (λ (k : ℕ). x * one * k) (mul_comm (down e) (n * up d))
 
     go : (a : Bool) → Rounded (round binary32 (unlike a false) (m * up e * down d) (n * up d * down e)) (cond a 0 x * one) (cond a x 0 * one) y
-    go true = part-of true _ (n * up d * down e) (0 * one) (x * one) (x * one) y (mul-pos above (down_pos e)) sizes refl (zero-mul one)
-    go false = part-of false _ (n * up d * down e) (x * one) (0 * one) (x * one) y (mul-pos above (down_pos e)) sizes refl (zero-mul one)
+    go true = part_of true _ (n * up d * down e) (0 * one) (x * one) (x * one) y (mul-pos above (down_pos e)) sizes refl (zero-mul one)
+    go false = part_of false _ (n * up d * down e) (x * one) (0 * one) (x * one) y (mul-pos above (down_pos e)) sizes refl (zero-mul one)

@@ -8,7 +8,7 @@ use Rattle.elementary.specs.Units.{mag}
 
 -- x is finite, and a value of binary32
 pub record Number (x : Float) : Type 0 where
-  pub is-finite : T (finite x)
+  pub is_finite : T (finite x)
   pub holds : T (fits binary32 x)
 
 -- the number 1, in units

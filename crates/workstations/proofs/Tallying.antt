@@ -4,63 +4,63 @@ use mathlib.Core.Path.{◌≡◌, refl, ap, ◌∙◌}
 use mathlib.Core.List.{List, [], ◌∷◌}
 use Prim.Native.Nat.{ℕ, zero, suc}
 use Rattle.answers.specs.Answer.{Answer, written}
-use Rattle.answers.proofs.Refusals.{not-refused, writes}
-use Rattle.table.specs.Parameters.{Lists, lengthsOf, done}
-use Rattle.table.specs.Checks.{buildNumber}
+use Rattle.answers.proofs.Refusals.{not_refused, writes}
+use Rattle.table.specs.Parameters.{Lists, lengths_of, done}
+use Rattle.table.specs.Checks.{build_number}
 use Rattle.table.specs.Starting.{started, start}
 use Rattle.table.specs.Building.{built, build}
-use Rattle.table.specs.Sets.{Rows, adding, tableOf}
+use Rattle.table.specs.Sets.{Rows, adding, table_of}
 use Rattle.table.specs.declared.parameters.Record.{Record}
-use Rattle.table.proofs.Refusals.{build-accepted}
-use Rattle.table.proofs.TableLaws.{table-laws}
+use Rattle.table.proofs.Refusals.{build_accepted}
+use Rattle.table.proofs.TableLaws.{table_laws}
 use Rattle.workstations.specs.Calls.{Call, Build, Ask, step, Run, run}
-use Rattle.workstations.specs.Tally.{StartOf, recordFed, answerFed, rowsFed, next, rowsAfter, answersFrom, rowsBuilt, tallied}
-use Rattle.workstations.specs.Joint.{Opening, by-start, Workstation, opened, fed, tableAfter, rowsOf, IsTally}
+use Rattle.workstations.specs.Tally.{StartOf, record_fed, answer_fed, rows_fed, next, rows_after, answers_from, rows_built, tallied}
+use Rattle.workstations.specs.Joint.{Opening, by_start, Workstation, opened, fed, table_after, rows_of, IsTally}
 
 -- ---- one call on a set's table
 
 module _ (r : Record) (S : Rows) where
-  build-on : (i : ℕ) → (build r i (tableOf r S)).lists ≡ tableOf r (next r S (Build i))
+  build_on : (i : ℕ) → (build r i (table_of r S)).lists ≡ table_of r (next r S (Build i))
   unfolding build next written
-  build-on i = go (buildNumber r i _ _ _) refl
+  build_on i = go (build_number r i _ _ _) refl
     where
-      go : (k : ℕ) → buildNumber r i (tableOf r S).rhoSamples (tableOf r S).radiusSamples (lengthsOf (tableOf r S)) ≡ k
-          → written k (built r i (tableOf r S)) (tableOf r S) ≡ tableOf r (written k (adding i S) S)
-      go zero e = table-laws.built-on r S i (build-accepted r i _ _ _ e).row
+      go : (k : ℕ) → build_number r i (table_of r S).rho_samples (table_of r S).radius_samples (lengths_of (table_of r S)) ≡ k
+          → written k (built r i (table_of r S)) (table_of r S) ≡ table_of r (written k (adding i S) S)
+      go zero e = table_laws.built_on r S i (build_accepted r i _ _ _ e).row
       go (suc k) e = refl
 
-  step-on : (c : Call) → (step r (tableOf r S) c).lists ≡ tableOf r (next r S c)
+  step_on : (c : Call) → (step r (table_of r S) c).lists ≡ table_of r (next r S c)
   unfolding step next
-  step-on (Build i) = build-on i
-  step-on (Ask q) = refl
+  step_on (Build i) = build_on i
+  step_on (Ask q) = refl
 
 -- ---- a list of calls on a set's table
 
-run-on : (r : Record) (S : Rows) (cs : List Call) → run r (tableOf r S) cs ≡ record { answers = answersFrom r S cs; lists = tableOf r (rowsAfter r S cs) }
-unfolding run answersFrom rowsAfter
-run-on r S [] = refl
-run-on r S (c ∷ cs) = rw (step-on r S c, run-on r (next r S c) cs)
+run_on : (r : Record) (S : Rows) (cs : List Call) → run r (table_of r S) cs ≡ record { answers = answers_from r S cs; lists = table_of r (rows_after r S cs) }
+unfolding run answers_from rows_after
+run_on r S [] = refl
+run_on r S (c ∷ cs) = rw (step_on r S c, run_on r (next r S c) cs)
 
 -- ---- from an opening on
 
 -- an accepted start leaves the table of the rows that the tally begins with
-started-on : (r : Record) (lent : Lists) → (start r lent).answer ≡ done → (start r lent).lists ≡ tableOf r (rowsFed (StartOf r))
+started_on : (r : Record) (lent : Lists) → (start r lent).answer ≡ done → (start r lent).lists ≡ table_of r (rows_fed (StartOf r))
 unfolding start
-started-on r lent e = writes _ (started r) lent (not-refused _ done (ap (λ (a : Answer). a.refused) e)) ∙ table-laws.started-is r
+started_on r lent e = writes _ (started r) lent (not_refused _ done (ap (λ (a : Answer). a.refused) e)) ∙ table_laws.started_is r
 
-opened-is : (r : Record) (o : Opening r) → (recordFed (fed r o) ≡ r) × ((opened r o).answer ≡ answerFed (fed r o)) × ((opened r o).lists ≡ tableOf r (rowsFed (fed r o)))
-opened-is r (by-start lent accepted) = (refl, accepted, started-on r lent accepted)
+opened_is : (r : Record) (o : Opening r) → (record_fed (fed r o) ≡ r) × ((opened r o).answer ≡ answer_fed (fed r o)) × ((opened r o).lists ≡ table_of r (rows_fed (fed r o)))
+opened_is r (by_start lent accepted) = (refl, accepted, started_on r lent accepted)
 
 module _ (r : Record) (w : Workstation r) where
-  run-is : run r (opened r w.opening).lists w.calls ≡ record { answers = answersFrom r (rowsFed (fed r w.opening)) w.calls; lists = tableOf r (rowsOf r w) }
-  unfolding rowsBuilt
-  run-is = let o = opened-is r w.opening in rw (o.0, o.2) (run-on r (rowsFed (fed r w.opening)) w.calls)
+  run_is : run r (opened r w.opening).lists w.calls ≡ record { answers = answers_from r (rows_fed (fed r w.opening)) w.calls; lists = table_of r (rows_of r w) }
+  unfolding rows_built
+  run_is = let o = opened_is r w.opening in rw (o.0, o.2) (run_on r (rows_fed (fed r w.opening)) w.calls)
 
-  pub after-is : tableAfter r w ≡ tableOf r (rowsOf r w)
-  after-is = ap (λ (x : Run). x.lists) run-is
+  pub after_is : table_after r w ≡ table_of r (rows_of r w)
+  after_is = ap (λ (x : Run). x.lists) run_is
 
-pub is-tally : IsTally
+pub is_tally : IsTally
 unfolding tallied
-is-tally r w =
-    let o = opened-is r w.opening in
-    (rw (o.0, o.1) (ap (λ (x : Run). answerFed (fed r w.opening) ∷ x.answers) (run-is r w)), after-is r w)
+is_tally r w =
+    let o = opened_is r w.opening in
+    (rw (o.0, o.1) (ap (λ (x : Run). answer_fed (fed r w.opening) ∷ x.answers) (run_is r w)), after_is r w)

@@ -1,15 +1,15 @@
 -- What a call does, and what a list of calls does: each is given the start's record, and the six lists as the call before left them (document 01, "Drawing a radius").
 use Rattle.std.specs.Prelude.{ℕ, List, [], ◌∷◌, Float}
 use Rattle.answers.specs.Answer.{Answer, refusal, value}
-use Rattle.scattering.specs.Exitance.{spectrumValue}
+use Rattle.scattering.specs.Exitance.{spectrum_value}
 use Rattle.scattering.specs.declared.spectrum.RGBEnum.{RGBEnum}
 use Rattle.table.specs.Parameters.{Lists, Effect, effect, done}
 use Rattle.table.specs.Building.{build}
 use Rattle.table.specs.declared.parameters.Record.{Record}
 use Rattle.bssrdf.specs.Question.{Question, posed}
-use Rattle.bssrdf.specs.Radiance.{srQuestion}
-use Rattle.bssrdf.specs.Density.{pdfQuestion}
-use Rattle.bssrdf.specs.Drawing.{sampleQuestion, drawnValue}
+use Rattle.bssrdf.specs.Radiance.{sr_question}
+use Rattle.bssrdf.specs.Density.{pdf_question}
+use Rattle.bssrdf.specs.Drawing.{sample_question, drawn_value}
 use Rattle.bssrdf.specs.declared.coefficients.Coefficients.{Coefficients}
 use Rattle.bssrdf.specs.declared.coefficients.WorldRadius.{WorldRadius}
 use Rattle.workstations.specs.declared.calls.Query.{Query as DeclaredQuery}
@@ -27,18 +27,18 @@ pub data Call : Type 0 where
   Build : ℕ → Call
   Ask : Query → Call
 
--- ---- a query, as a question: the rows that it needs, the number of its checks before 11, and its answer, which is that of `sr`, `pdfSr` or `sampleSr`
+-- ---- a query, as a question: the rows that it needs, the number of its checks before 11, and its answer, which is that of `sr`, `pdf_sr` or `sample_sr`
 
 unfoldable pub question : Record → Query → Lists → Question
-question r (Sr c x) = srQuestion r c x
-question r (PdfSr ch c x) = pdfQuestion r ch c x
-question r (SampleSr ch c u allowance) = sampleQuestion r ch c u allowance
+question r (Sr c x) = sr_question r c x
+question r (PdfSr ch c x) = pdf_question r ch c x
+question r (SampleSr ch c u allowance) = sample_question r ch c u allowance
 
-abbrev pub neededRows : Record → Lists → Query → List ℕ
-neededRows r t q = (question r q t).rows
+abbrev pub needed_rows : Record → Lists → Query → List ℕ
+needed_rows r t q = (question r q t).rows
 
-abbrev pub orderNumber : Record → Lists → Query → ℕ
-orderNumber r t q = (question r q t).order
+abbrev pub order_number : Record → Lists → Query → ℕ
+order_number r t q = (question r q t).order
 
 unfoldable pub ask : Record → Lists → Query → Answer
 ask r t q = posed t.marks (question r q t)
@@ -68,18 +68,18 @@ batch = 16
 
 -- ---- what the code's queries, calls and answers stand for, case by case
 
-unfoldable pub queryOf : DeclaredQuery → Query
-queryOf (DeclaredQuery.Sr c x) = Sr c x
-queryOf (DeclaredQuery.PdfSr ch c x) = PdfSr ch c x
-queryOf (DeclaredQuery.SampleSr ch c u allowance) = SampleSr ch c u allowance
+unfoldable pub query_of : DeclaredQuery → Query
+query_of (DeclaredQuery.Sr c x) = Sr c x
+query_of (DeclaredQuery.PdfSr ch c x) = PdfSr ch c x
+query_of (DeclaredQuery.SampleSr ch c u allowance) = SampleSr ch c u allowance
 
-unfoldable pub callOf : DeclaredCall → Call
-callOf (DeclaredCall.Build i) = Build i
-callOf (DeclaredCall.Ask q) = Ask (queryOf q)
+unfoldable pub call_of : DeclaredCall → Call
+call_of (DeclaredCall.Build i) = Build i
+call_of (DeclaredCall.Ask q) = Ask (query_of q)
 
 unfoldable pub told : DeclaredAnswer → Answer
 told DeclaredAnswer.Done = done
-told (DeclaredAnswer.Radiance s) = spectrumValue s
+told (DeclaredAnswer.Radiance s) = spectrum_value s
 told (DeclaredAnswer.Density v) = value (v ∷ []) []
-told (DeclaredAnswer.Drawn radius rounds) = drawnValue radius rounds
+told (DeclaredAnswer.Drawn radius rounds) = drawn_value radius rounds
 told (DeclaredAnswer.Refused number) = refusal number

@@ -6,18 +6,18 @@ use Rattle.interpolation.specs.Checks.{check10}
 use Rattle.scattering.specs.declared.spectrum.RGBEnum.{RGBEnum}
 use Rattle.table.specs.Parameters.{Lists, Effect, done}
 use Rattle.table.specs.Starting.{start}
-use Rattle.table.specs.Sets.{Rows, tableOf}
+use Rattle.table.specs.Sets.{Rows, table_of}
 use Rattle.table.specs.declared.parameters.Record.{Record}
 use Rattle.bssrdf.specs.Needed.{among}
 use Rattle.bssrdf.specs.declared.coefficients.Coefficients.{Coefficients}
-use Rattle.workstations.specs.Calls.{Query, SampleSr, Call, Ask, neededRows, orderNumber, ask, step, Run, run}
-use Rattle.workstations.specs.Tally.{Fed, StartOf, rowsBuilt, tallied}
+use Rattle.workstations.specs.Calls.{Query, SampleSr, Call, Ask, needed_rows, order_number, ask, step, Run, run}
+use Rattle.workstations.specs.Tally.{Fed, StartOf, rows_built, tallied}
 
 -- ---- a workstation with the record r: an opening, and any list of calls
 
 -- how its list of calls is opened: by a start that is accepted, on lent lists of any contents
 pub data Opening (r : Record) : Type 0 where
-  by-start : (lent : Lists) → (start r lent).answer ≡ done → Opening r
+  by_start : (lent : Lists) → (start r lent).answer ≡ done → Opening r
 
 pub record Workstation (r : Record) : Type 0 where
   pub opening : Opening r
@@ -25,10 +25,10 @@ pub record Workstation (r : Record) : Type 0 where
 
 -- what the opening does, and what of it the tally is fed: no list
 abbrev pub opened : (r : Record) → Opening r → Effect
-opened r (by-start lent accepted) = start r lent
+opened r (by_start lent accepted) = start r lent
 
 abbrev pub fed : (r : Record) → Opening r → Fed
-fed r (by-start lent accepted) = StartOf r
+fed r (by_start lent accepted) = StartOf r
 
 -- the opening, and then each call on the lists as the one before left them: all answers, and the table after the last
 abbrev pub session : (r : Record) → Workstation r → Run
@@ -37,12 +37,12 @@ session r w =
     let rest = run r first.lists w.calls in
     record { answers = first.answer ∷ rest.answers; lists = rest.lists }
 
-abbrev pub tableAfter : (r : Record) → Workstation r → Lists
-tableAfter r w = (session r w).lists
+abbrev pub table_after : (r : Record) → Workstation r → Lists
+table_after r w = (session r w).lists
 
 -- the rows built by its list: the tally's set after it
-abbrev pub rowsOf : (r : Record) → Workstation r → Rows
-rowsOf r w = rowsBuilt (fed r w.opening) w.calls
+abbrev pub rows_of : (r : Record) → Workstation r → Rows
+rows_of r w = rows_built (fed r w.opening) w.calls
 
 -- ---- words
 
@@ -67,21 +67,21 @@ pub data Allows : Query → Query → Type 0 where
 
 -- (a) each answer, and the table after, are those of the tally
 abbrev pub IsTally : Type 0
-IsTally = (r : Record) (w : Workstation r) → ((session r w).answers ≡ tallied (fed r w.opening) w.calls) × (tableAfter r w ≡ tableOf r (rowsOf r w))
+IsTally = (r : Record) (w : Workstation r) → ((session r w).answers ≡ tallied (fed r w.opening) w.calls) × (table_after r w ≡ table_of r (rows_of r w))
 
 -- (b) where the second's rows include the first's, a query with a value on the first's table gets that value, with its rounds, on both; on the second's with any accepted allowance at least as large
 abbrev pub Agreement : Type 0
-Agreement = (r : Record) (w₁ w₂ : Workstation r) → Includes (rowsOf r w₁) (rowsOf r w₂) → (q p : Query) → Allows q p
-    → let a = ask r (tableAfter r w₁) q in IsValue a → ((step r (tableAfter r w₁) (Ask q)).answer ≡ a) × ((step r (tableAfter r w₂) (Ask p)).answer ≡ a)
+Agreement = (r : Record) (w₁ w₂ : Workstation r) → Includes (rows_of r w₁) (rows_of r w₂) → (q p : Query) → Allows q p
+    → let a = ask r (table_after r w₁) q in IsValue a → ((step r (table_after r w₁) (Ask q)).answer ≡ a) × ((step r (table_after r w₂) (Ask p)).answer ≡ a)
 
 -- (c) equal sets of built rows mean equal tables
 abbrev pub SameTables : Type 0
-SameTables = (r : Record) (w₁ w₂ : Workstation r) → SameRows (rowsOf r w₁) (rowsOf r w₂) → tableAfter r w₁ ≡ tableAfter r w₂
+SameTables = (r : Record) (w₁ w₂ : Workstation r) → SameRows (rows_of r w₁) (rows_of r w₂) → table_after r w₁ ≡ table_after r w₂
 
 -- (d) a query in order, which no check before 11 refuses, gets 11 exactly when a row that it needs is then unbuilt
 abbrev pub RowMissing : Type 0
-RowMissing = (r : Record) (w : Workstation r) (q : Query) → orderNumber r (tableAfter r w) q ≡ 0
-    → ((step r (tableAfter r w) (Ask q)).answer ≡ refusal 11) ↔ ((k : ℕ) × (among (neededRows r (tableAfter r w) q) k ≡ true) × (rowsOf r w k ≡ false))
+RowMissing = (r : Record) (w : Workstation r) (q : Query) → order_number r (table_after r w) q ≡ 0
+    → ((step r (table_after r w) (Ask q)).answer ≡ refusal 11) ↔ ((k : ℕ) × (among (needed_rows r (table_after r w) q) k ≡ true) × (rows_of r w k ≡ false))
 
 -- (e) a refused call changes no list, whatever the lists hold
 abbrev pub Keeps : Type 0
@@ -89,8 +89,8 @@ Keeps = (r : Record) (t : Lists)
     → ((start r t).answer.refused ≡ true → (start r t).lists ≡ t) × ((c : Call) → (step r t c).answer.refused ≡ true → (step r t c).lists ≡ t)
 
 pub record Joint : Type 0 where
-  pub is-tally : IsTally
+  pub is_tally : IsTally
   pub agreement : Agreement
-  pub same-tables : SameTables
-  pub row-missing : RowMissing
+  pub same_tables : SameTables
+  pub row_missing : RowMissing
   pub keeps : Keeps

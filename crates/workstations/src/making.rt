@@ -1,9 +1,9 @@
 // A query, one call and a list of calls, made on the lent lists.
 ghost use Rattle.std.specs.Prelude.{◌≡◌, map, min, take};
-ghost use Rattle.table.specs.Parameters.{lists, effect, outcomeTold};
-ghost use Rattle.bssrdf.specs.Radiance.{srTold};
-ghost use Rattle.bssrdf.specs.Density.{pdfTold};
-ghost use Rattle.bssrdf.specs.Drawing.{drawnTold};
+ghost use Rattle.table.specs.Parameters.{lists, effect, outcome_told};
+ghost use Rattle.bssrdf.specs.Radiance.{sr_told};
+ghost use Rattle.bssrdf.specs.Density.{pdf_told};
+ghost use Rattle.bssrdf.specs.Drawing.{drawn_told};
 ghost use Rattle.workstations.specs.Calls as Calls;
 
 use crate::calls::{Answer, Call, Query};
@@ -14,9 +14,9 @@ use table::{Outcome, Record, build};
 pub const BATCH: usize = 16;
 
 // What a build, `sr`, `pdf_sr` and `sample_sr` answer, as the answer of a call.
-#[tactic(auto, unfolding(crate::specs::Calls::told, table::specs::Parameters::outcomeTold))]
+#[tactic(auto, unfolding(crate::specs::Calls::told, table::specs::Parameters::outcome_told))]
 fn of_outcome(y: Outcome) -> Answer
-    ensures { Calls.told result ≡ outcomeTold y }
+    ensures { Calls.told result ≡ outcome_told y }
 {
     match y {
         Outcome::Done => Answer::Done,
@@ -24,9 +24,9 @@ fn of_outcome(y: Outcome) -> Answer
     }
 }
 
-#[tactic(auto, unfolding(crate::specs::Calls::told, bssrdf::specs::Radiance::srTold))]
+#[tactic(auto, unfolding(crate::specs::Calls::told, bssrdf::specs::Radiance::sr_told))]
 fn of_radiance(y: Radiance) -> Answer
-    ensures { Calls.told result ≡ srTold y }
+    ensures { Calls.told result ≡ sr_told y }
 {
     match y {
         Radiance::Value(s) => Answer::Radiance(s),
@@ -34,9 +34,9 @@ fn of_radiance(y: Radiance) -> Answer
     }
 }
 
-#[tactic(auto, unfolding(crate::specs::Calls::told, bssrdf::specs::Density::pdfTold))]
+#[tactic(auto, unfolding(crate::specs::Calls::told, bssrdf::specs::Density::pdf_told))]
 fn of_density(y: Density) -> Answer
-    ensures { Calls.told result ≡ pdfTold y }
+    ensures { Calls.told result ≡ pdf_told y }
 {
     match y {
         Density::Value(v) => Answer::Density(v),
@@ -44,9 +44,9 @@ fn of_density(y: Density) -> Answer
     }
 }
 
-#[tactic(auto, unfolding(crate::specs::Calls::told, bssrdf::specs::Drawing::drawnTold))]
+#[tactic(auto, unfolding(crate::specs::Calls::told, bssrdf::specs::Drawing::drawn_told))]
 fn of_drawn(y: Drawn) -> Answer
-    ensures { Calls.told result ≡ drawnTold y }
+    ensures { Calls.told result ≡ drawn_told y }
 {
     match y {
         Drawn::Radius(radius, rounds) => Answer::Drawn(radius, rounds),
@@ -55,7 +55,7 @@ fn of_drawn(y: Drawn) -> Answer
 }
 
 // A query. The lists are only read.
-#[tactic(auto, unfolding(crate::specs::Calls::ask, crate::specs::Calls::question, crate::specs::Calls::queryOf, bssrdf::specs::Radiance::sr, bssrdf::specs::Density::pdfSr, bssrdf::specs::Drawing::sampleSr))]
+#[tactic(auto, unfolding(crate::specs::Calls::ask, crate::specs::Calls::question, crate::specs::Calls::query_of, bssrdf::specs::Radiance::sr, bssrdf::specs::Density::pdf_sr, bssrdf::specs::Drawing::sample_sr))]
 pub fn ask(
     r: Record,
     rho_samples: &[f32],
@@ -66,7 +66,7 @@ pub fn ask(
     marks: &[u8],
     q: Query,
 ) -> Answer
-    ensures { Calls.told result ≡ Calls.ask r (lists rho_samples.now radius_samples.now profile.now rho_eff.now profile_cdf.now marks.now) (Calls.queryOf q) }
+    ensures { Calls.told result ≡ Calls.ask r (lists rho_samples.now radius_samples.now profile.now rho_eff.now profile_cdf.now marks.now) (Calls.query_of q) }
 {
     match q {
         Query::Sr(c, x) => of_radiance(sr(
@@ -109,7 +109,7 @@ pub fn ask(
 }
 
 // One call after a start.
-#[tactic(auto, unfolding(crate::specs::Calls::step, crate::specs::Calls::callOf))]
+#[tactic(auto, unfolding(crate::specs::Calls::step, crate::specs::Calls::call_of))]
 pub fn step(
     r: Record,
     rho_samples: &[f32],
@@ -121,7 +121,7 @@ pub fn step(
     call: Call,
 ) -> Answer
     ensures { effect (Calls.told result) (lists rho_samples.now radius_samples.now profile.new rho_eff.new profile_cdf.new marks.new)
-        ≡ Calls.step r (lists rho_samples.now radius_samples.now profile.old rho_eff.old profile_cdf.old marks.old) (Calls.callOf call) }
+        ≡ Calls.step r (lists rho_samples.now radius_samples.now profile.old rho_eff.old profile_cdf.old marks.old) (Calls.call_of call) }
 {
     match call {
         Call::Build(i) => of_outcome(build(
@@ -168,9 +168,9 @@ pub fn make(
     n: usize,
 ) -> [Answer; BATCH]
     ensures answers { map Calls.told (take n result)
-        ≡ (Calls.run r (lists rho_samples.now radius_samples.now profile.old rho_eff.old profile_cdf.old marks.old) (map Calls.callOf (take n calls))).answers }
+        ≡ (Calls.run r (lists rho_samples.now radius_samples.now profile.old rho_eff.old profile_cdf.old marks.old) (map Calls.call_of (take n calls))).answers }
     ensures lists_after { lists rho_samples.now radius_samples.now profile.new rho_eff.new profile_cdf.new marks.new
-        ≡ (Calls.run r (lists rho_samples.now radius_samples.now profile.old rho_eff.old profile_cdf.old marks.old) (map Calls.callOf (take n calls))).lists }
+        ≡ (Calls.run r (lists rho_samples.now radius_samples.now profile.old rho_eff.old profile_cdf.old marks.old) (map Calls.call_of (take n calls))).lists }
 {
     let count = in_batch(n);
     let mut answers = [Answer::Done; BATCH];

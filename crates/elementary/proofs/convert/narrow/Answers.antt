@@ -6,13 +6,13 @@ use lib.Ieee.{Float, binary32, binary64, fits, of_bits}
 use lib.Ieee.Bits.{to_bits-lt}
 use Rattle.elementary.specs.Convert as Convert
 use Rattle.elementary.proofs.Patterns.{infinite}
-use Rattle.elementary.proofs.Values.{is-nan, equals-itself, pattern, negative, at-top, at-zero, between}
-use Rattle.elementary.proofs.Rounded.{rounded-at, rounded-inf, rounded-nan}
+use Rattle.elementary.proofs.Values.{is_nan_lem, equals_itself, pattern, negative, at_top, at_zero, between}
+use Rattle.elementary.proofs.Rounded.{rounded_at, rounded_inf, rounded_nan}
 use Rattle.elementary.proofs.convert.narrow.Goals as goal
 
 -- the sign's bit, as a Bool and as a number
-sign-is : (b : ℕ) → b < 2 * 2 ^ 63 → cond (leb (2 ^ 63) b) (2 ^ 31) 0 ≡ b / 2 ^ 63 * 2 ^ 31
-sign-is b h = go (leb (2 ^ 63) b) (leb→le (2 ^ 63) b) (nleb→lt (2 ^ 63) b)
+sign_is : (b : ℕ) → b < 2 * 2 ^ 63 → cond (leb (2 ^ 63) b) (2 ^ 31) 0 ≡ b / 2 ^ 63 * 2 ^ 31
+sign_is b h = go (leb (2 ^ 63) b) (leb→le (2 ^ 63) b) (nleb→lt (2 ^ 63) b)
   where
     go : (t : Bool) → (T t → 2 ^ 63 ≤ b) → (T (not t) → b < 2 ^ 63) → cond t (2 ^ 31) 0 ≡ b / 2 ^ 63 * 2 ^ 31
     go true p q = omega (arith, p tt)
@@ -28,13 +28,13 @@ module _ (x : Float) (held : T (fits binary64 x)) where
 
   -- what `signed` gives, with the sign as `pack` has it
   stamp : (r : ℕ) → of_bits binary32 (pattern binary64 x held / 2 ^ 63 * 2 ^ 31 + r) ≡ of_bits binary32 (cond minus (2 ^ 31) 0 + r)
-  stamp r = ap (λ (n : ℕ). of_bits binary32 (n + r)) (sym (sign-is (pattern binary64 x held) (to_bits-lt binary64 x held)))
+  stamp r = ap (λ (n : ℕ). of_bits binary32 (n + r)) (sym (sign_is (pattern binary64 x held) (to_bits-lt binary64 x held)))
 
 pub returns-then-x : goal.returns-then-x
-returns-then-x c = c.nan.ensures ∙ sym (rounded-nan binary32) ∙ ap Convert.narrow (sym (is-nan _ c.if-x.true))
+returns-then-x c = c.nan.ensures ∙ sym (rounded_nan binary32) ∙ ap Convert.narrow (sym (is_nan_lem _ c.if-x.true))
 
 pub float_to_bits-bits : goal.float_to_bits-bits
-float_to_bits-bits c = equals-itself _ c.if-x.false
+float_to_bits-bits c = equals_itself _ c.if-x.false
 
 pub signed-requires-clause-bit : goal.signed-requires-clause-bit
 signed-requires-clause-bit c = bit c.args.x (passes _ c.well_formed.0.1)
@@ -43,7 +43,7 @@ pub returns-then-field-eq2047 : goal.returns-then-field-eq2047
 returns-then-field-eq2047 c =
     let x = c.args.x in
     let held = passes _ c.well_formed.0.1 in
-    c.signed.ensures ∙ stamp x held _ ∙ infinite (minus x held) ∙ sym (rounded-inf binary32 (minus x held)) ∙ ap Convert.narrow (sym (at-top binary64 x held c.if-field-eq2047.true (equals-itself _ c.if-x.false)))
+    c.signed.ensures ∙ stamp x held _ ∙ infinite (minus x held) ∙ sym (rounded_inf binary32 (minus x held)) ∙ ap Convert.narrow (sym (at_top binary64 x held c.if-field-eq2047.true (equals_itself _ c.if-x.false)))
 
 pub signed-requires-then-field-eq0-clause-bit : goal.signed-requires-then-field-eq0-clause-bit
 signed-requires-then-field-eq0-clause-bit c = bit c.args.x (passes _ c.well_formed.0.1)
@@ -53,7 +53,7 @@ returns-then-field-eq0 c =
     let x = c.args.x in
     let held = passes _ c.well_formed.0.1 in
     c.signed-then-field-eq0.ensures ∙ stamp x held _ ∙ c.pack.ensures.1 (minus x held)
-    ∙ sym (rounded-at binary32 x (minus x held) _ (2 ^ 1074) (pow_pos 1074) (at-zero binary64 x held c.if-field-eq0.true))
+    ∙ sym (rounded_at binary32 x (minus x held) _ (2 ^ 1074) (pow_pos 1074) (at_zero binary64 x held c.if-field-eq0.true))
 
 pub signed-requires-2-clause-bit : goal.signed-requires-2-clause-bit
 signed-requires-2-clause-bit c = bit c.args.x (passes _ c.well_formed.0.1)
@@ -63,4 +63,4 @@ returns c =
     let x = c.args.x in
     let held = passes _ c.well_formed.0.1 in
     c.signed-2.ensures ∙ stamp x held _ ∙ c.pack-2.ensures.1 (minus x held)
-    ∙ sym (rounded-at binary32 x (minus x held) _ (2 ^ 1074) (pow_pos 1074) (between binary64 x held c.if-field-eq0.false c.if-field-eq2047.false))
+    ∙ sym (rounded_at binary32 x (minus x held) _ (2 ^ 1074) (pow_pos 1074) (between binary64 x held c.if-field-eq0.false c.if-field-eq2047.false))

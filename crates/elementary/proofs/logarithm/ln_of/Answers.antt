@@ -5,9 +5,9 @@ use lib.Ieee.Exact.{HasValue}
 use lib.Ieee.Scale.{round_same}
 use Rattle.elementary.specs.Notation.{◌⊞◌, ◌⊟◌, ◌⊠◌, ◌⧄◌, lit64, one64, whole64}
 use Rattle.elementary.specs.Convert.{narrow}
-use Rattle.elementary.specs.Logarithm.{two, c31, ln2, odds, significand, exponent, lnSeries}
-use Rattle.elementary.proofs.Lengths.{size-normal, two-pows}
-use Rattle.elementary.proofs.Quotients.{whole64-at, div-at}
+use Rattle.elementary.specs.Logarithm.{two, c31, ln2, odds, significand, exponent, ln_series}
+use Rattle.elementary.proofs.Lengths.{size_normal, two_pows}
+use Rattle.elementary.proofs.Quotients.{whole64_at, div_at}
 use Rattle.elementary.proofs.logarithm.ln_of.Goals as goal
 
 -- 8388608.0 is 2 ^ 23
@@ -16,20 +16,20 @@ unfolding of_bits
 power = (refl, refl)
 
 module _ (q j : ℕ) (l : 2 ^ 23 ≤ q) (h : q < 2 ^ 24) where
-  significand-is : whole64 q ⧄ lit64 0x4160_0000_0000_0000 ≡ significand (q * 2 ^ j)
-  significand-is =
-      let e : j + 23 ≡ size (q * 2 ^ j) - 1 = omega (arith, size-normal q j l h) in
-      div-at binary64 (whole64 q) (lit64 0x4160_0000_0000_0000) q 1 (2 ^ 23) 1 (pow_pos 0) (pow_pos 23) (pow_pos 0) (whole64-at q (le_trans (le_of_lt h) (lit≤ tt))) power
+  significand_is : whole64 q ⧄ lit64 0x4160_0000_0000_0000 ≡ significand (q * 2 ^ j)
+  significand_is =
+      let e : j + 23 ≡ size (q * 2 ^ j) - 1 = omega (arith, size_normal q j l h) in
+      div_at binary64 (whole64 q) (lit64 0x4160_0000_0000_0000) q 1 (2 ^ 23) 1 (pow_pos 0) (pow_pos 23) (pow_pos 0) (whole64_at q (le_trans (le_of_lt h) (lit≤ tt))) power
       ∙ round_same binary64 false (q * 1) (2 ^ 23 * 1) (q * 2 ^ j) (2 ^ (size (q * 2 ^ j) - 1)) (pow_pos 23) (pow_pos (size (q * 2 ^ j) - 1))
-      (ap (λ (n : ℕ). n * 2 ^ (size (q * 2 ^ j) - 1)) (mul-one q) ∙ ap (λ (n : ℕ). q * 2 ^ n) (sym e) ∙ sym (two-pows q j 23))
+      (ap (λ (n : ℕ). n * 2 ^ (size (q * 2 ^ j) - 1)) (mul-one q) ∙ ap (λ (n : ℕ). q * 2 ^ n) (sym e) ∙ sym (two_pows q j 23))
 
-  exponent-is : neg (whole64 (126 - j)) ≡ exponent (q * 2 ^ j)
-  exponent-is =
-      let e : 126 - j ≡ 150 - size (q * 2 ^ j) = omega (arith, size-normal q j l h) in
+  exponent_is : neg (whole64 (126 - j)) ≡ exponent (q * 2 ^ j)
+  exponent_is =
+      let e : 126 - j ≡ 150 - size (q * 2 ^ j) = omega (arith, size_normal q j l h) in
       ap (λ (n : ℕ). neg (whole64 n)) e
 
-series : (m e : Float) → let s = (m ⊟ one64) ⧄ (m ⊞ one64) in narrow (e ⊠ ln2 ⊞ two ⊠ s ⊠ odds 15 (s ⊠ s) (one64 ⧄ c31)) ≡ lnSeries m e
-unfolding lnSeries
+series : (m e : Float) → let s = (m ⊟ one64) ⧄ (m ⊞ one64) in narrow (e ⊠ ln2 ⊞ two ⊠ s ⊠ odds 15 (s ⊠ s) (one64 ⧄ c31)) ≡ ln_series m e
+unfolding ln_series
 series m e = refl
 
 pub returns : goal.returns
@@ -42,4 +42,4 @@ returns c =
     c.narrow.ensures
     ∙ ap (λ (h : Float). narrow (e ⊠ ln2 ⊞ two ⊠ t ⊠ h)) c.ln_terms.ensures
     ∙ series m e
-    ∙ (λ i. lnSeries (significand-is q j c.requires.low c.requires.high i) (exponent-is q j c.requires.low c.requires.high i))
+    ∙ (λ i. ln_series (significand_is q j c.requires.low c.requires.high i) (exponent_is q j c.requires.low c.requires.high i))

@@ -1,7 +1,7 @@
--- `by_digits` meets its contract: the weight of the digit is half of 2 ^ d (`half-shifted`), and the digit is set, or not, as the test says (`turn`).
+-- `by_digits` meets its contract: the weight of the digit is half of 2 ^ d (`half_shifted`), and the digit is set, or not, as the test says (`turn`).
 use Rattle.std.proofs.Common.{◌≡◌, ℕ, ◌+◌, ◌-◌, ◌*◌, ◌%◌, ◌^◌, ◌<◌, ◌≤◌, Bool, cond, ltb, sym, ap, ◌∙◌, lt_of_le_of_lt, mul-le-mul, arith, lit<, lt-ltb, le-ltb}
-use Rattle.elementary.specs.Root.{digits, nearestRoot}
-use Rattle.elementary.proofs.Lengths.{Half, half-shifted}
+use Rattle.elementary.specs.Root.{digits, nearest_root}
+use Rattle.elementary.proofs.Lengths.{Half, half_shifted}
 use Rattle.elementary.proofs.Squares.{turn, none}
 use Rattle.elementary.proofs.root.by_digits.Goals as goal
 
@@ -11,12 +11,12 @@ unit d = 1 * 2 ^ (d - 1) % 2 ^ 64
 
 module _ (g d : ℕ) (some : 0 < d) (few : d ≤ 24) where
   halves : Half d (unit d)
-  halves = half-shifted d 64 some (omega arith)
+  halves = half_shifted d 64 some (omega arith)
 
   room : g + 2 ^ d ≤ 2 ^ 24 → g + 2 * unit d ≤ 2 ^ 24
   room fit = omega (arith, halves.twice)
 
-  next : (n : ℕ) {b : Bool} → ltb ((2 * (g + unit d) - 1) * (2 * (g + unit d) - 1)) (4 * n) ≡ b → digits d n g ≡ nearestRoot n → digits (d - 1) n (cond b (g + unit d) g) ≡ nearestRoot n
+  next : (n : ℕ) {b : Bool} → ltb ((2 * (g + unit d) - 1) * (2 * (g + unit d) - 1)) (4 * n) ≡ b → digits d n g ≡ nearest_root n → digits (d - 1) n (cond b (g + unit d) g) ≡ nearest_root n
   next n t e = sym (turn d n g (unit d) some halves.is t) ∙ e
 
 pub overflow_add-h : goal.overflow_add-h

@@ -1,4 +1,4 @@
--- `count` is how many of the nodes so far are below the next: all of them exactly if the nodes increase (`all-counted`)
+-- `count` is how many of the nodes so far are below the next: all of them exactly if the nodes increase (`all_counted`)
 use Rattle.std.proofs.Common.{◌≡◌, ◌-◌, ◌≤◌}
 use Rattle.interpolation.specs.Nodes.{rises}
 use Rattle.interpolation.proofs.Counting.{count}

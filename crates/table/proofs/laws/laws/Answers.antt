@@ -1,6 +1,6 @@
 -- `laws` meets its contract: it is the record of the laws.
-use Rattle.table.proofs.TableLaws.{table-laws}
+use Rattle.table.proofs.TableLaws.{table_laws}
 use Rattle.table.proofs.laws.laws.Goals as goal
 
 pub returns : goal.returns
-returns c = table-laws
+returns c = table_laws
