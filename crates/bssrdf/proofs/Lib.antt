@@ -20,3 +20,4 @@ pub mod AfterChecks
 pub mod Same
 -- all together
 pub mod QueryLaws
+pub mod ByQuery

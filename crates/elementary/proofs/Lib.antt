@@ -14,6 +14,7 @@ mod Rounding
 -- lists
 pub mod Filled
 pub mod Mapped
+pub mod Listed
 pub mod Pairs
 -- the root
 pub mod Squares

@@ -2,3 +2,6 @@
 
 -- the constants, by computation
 pub mod Literals
+-- the sums over lists
+pub mod SingleSum
+pub mod MultipleSum

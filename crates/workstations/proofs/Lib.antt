@@ -5,3 +5,4 @@ pub mod StartingNodes
 pub mod Asking
 pub mod Agreeing
 pub mod JointClaim
+pub mod ByStart
