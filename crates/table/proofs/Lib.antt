@@ -7,4 +7,5 @@ pub mod Parts
 pub mod RowLengths
 pub mod RowLists
 pub mod TableLaws
+pub mod ListByList
 pub mod Cited

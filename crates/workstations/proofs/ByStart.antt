@@ -1,27 +1,63 @@
--- The joint claim of workstations that accepted starts open, in plain words: the lent lists, that the start on them is accepted, and the calls. It is `Joint` of the opening `by_start`; the tally's answers are "done" and then those on the table of no rows.
--- And with values and refusals told by the number, as a caller has it: 0 for a value, and above 0 for a refusal, since what a call answers is `Numbered`. Assumes the laws of queries.
-use mathlib.Core.Path.{◌≡◌}
+-- The joint claim of workstations that accepted starts open, in plain words: the lent lists, that the start on them is accepted, and the calls (`joint_by_start`). It is `Joint` of the opening `by_start`; the tally's answers are "done" and then those on the table of no rows.
+-- Values and refusals are told by the number, as a caller has it: 0 for a value, and above 0 for a refusal, since what a call answers is `Numbered`. Before it, what `question` says, case by case. Assumes the laws of queries.
+use mathlib.Core.Path.{◌≡◌, refl}
 use mathlib.Core.Logic.{◌↔◌}
 use mathlib.Core.Bool.{true, false}
 use mathlib.Core.List.{List, ◌∷◌}
 use Prim.Native.Nat.{ℕ, ◌<◌}
-use Rattle.answers.specs.Answer.{refusal}
+use Rattle.answers.specs.Answer.{Answer, refusal}
 use Rattle.answers.proofs.Numbers.{Numbered, value_numbered, answered_numbered}
 use Rattle.table.specs.Parameters.{Lists, done}
 use Rattle.table.specs.Starting.{start}
 use Rattle.table.specs.Building.{build}
 use Rattle.table.specs.Sets.{Rows, no_rows, table_of}
 use Rattle.table.specs.declared.parameters.Record.{Record}
-use Rattle.bssrdf.specs.Needed.{among}
+use Rattle.bssrdf.specs.Needed.{among, sr_rows, pdf_rows, sample_rows}
+use Rattle.bssrdf.specs.Checks.{query_number, draw_number}
 use Rattle.bssrdf.specs.Laws.{QueryLaws}
-use Rattle.bssrdf.specs.Radiance.{sr}
-use Rattle.bssrdf.specs.Density.{pdf_sr}
-use Rattle.bssrdf.specs.Drawing.{sample_sr}
+use Rattle.bssrdf.specs.Radiance.{sr_question, sr}
+use Rattle.bssrdf.specs.Density.{pdf_question, pdf_sr}
+use Rattle.bssrdf.specs.Drawing.{sample_question, sample_sr}
 use Rattle.bssrdf.proofs.ByQuery.{sr_numbered, pdf_numbered, sample_numbered}
 use Rattle.workstations.specs.Calls.{Query, Sr, PdfSr, SampleSr, Call, Build, Ask, question, needed_rows, order_number, ask, step, Run, run}
 use Rattle.workstations.specs.Tally.{rows_after, answers_from, rows_built, tallied}
 use Rattle.workstations.specs.Joint.{by_start, Workstation, Includes, SameRows, Allows}
 use Rattle.workstations.proofs.JointClaim.{joint_from}
+
+-- ---- a query, case by case: its answer, the rows that it needs, and the number of its checks before 11
+
+abbrev pub answer_of : Record → Lists → Query → Answer
+answer_of r t (Sr c x) = sr r t c x
+answer_of r t (PdfSr ch c x) = pdf_sr r t ch c x
+answer_of r t (SampleSr ch c u allowance) = sample_sr r t ch c u allowance
+
+pub ask_is : (r : Record) (t : Lists) (q : Query) → ask r t q ≡ answer_of r t q
+unfolding ask question sr pdf_sr sample_sr
+ask_is r t (Sr c x) = refl
+ask_is r t (PdfSr ch c x) = refl
+ask_is r t (SampleSr ch c u allowance) = refl
+
+abbrev pub rows_of_query : Lists → Query → List ℕ
+rows_of_query t (Sr c x) = sr_rows t c x
+rows_of_query t (PdfSr ch c x) = pdf_rows t ch c x
+rows_of_query t (SampleSr ch c u allowance) = sample_rows t ch c
+
+pub needed_rows_are : (r : Record) (t : Lists) (q : Query) → needed_rows r t q ≡ rows_of_query t q
+unfolding question sr_question pdf_question sample_question
+needed_rows_are r t (Sr c x) = refl
+needed_rows_are r t (PdfSr ch c x) = refl
+needed_rows_are r t (SampleSr ch c u allowance) = refl
+
+abbrev pub checks_of_query : Record → Lists → Query → ℕ
+checks_of_query r t (Sr c x) = query_number r t c
+checks_of_query r t (PdfSr ch c x) = query_number r t c
+checks_of_query r t (SampleSr ch c u allowance) = draw_number r t c u allowance
+
+pub order_number_is : (r : Record) (t : Lists) (q : Query) → order_number r t q ≡ checks_of_query r t q
+unfolding question sr_question pdf_question sample_question
+order_number_is r t (Sr c x) = refl
+order_number_is r t (PdfSr ch c x) = refl
+order_number_is r t (SampleSr ch c u allowance) = refl
 
 -- ---- a refusal has a number
 
