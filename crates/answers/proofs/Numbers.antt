@@ -2,7 +2,8 @@
 use mathlib.Core.Path.{◌≡◌, refl}
 use mathlib.Core.Bool.{true, false}
 use mathlib.Core.List.{List}
-use Prim.Native.Nat.{ℕ, zero, suc, ◌<◌}
+use Prim.Native.Nat.{ℕ, zero, suc, ◌≤◌, ◌<◌}
+use native.Mathlib.Nat.{le_refl}
 use native.Mathlib.Omega.{arith}
 use lib.IntN.{ℤ}
 use lib.Ieee.{Float}
@@ -23,3 +24,9 @@ pub answered_numbered : (k : ℕ) (a : Answer) → Numbered a → Numbered (answ
 unfolding answered
 answered_numbered zero a n = n
 answered_numbered (suc k) a n = refusal_numbered (suc k) (omega arith)
+
+-- what is answered with the number 0 was refused by no check
+pub passed_by_number : (k : ℕ) (a : Answer) → (answered k a).number ≡ 0 → k ≤ 0
+unfolding answered
+passed_by_number zero a h = le_refl 0
+passed_by_number (suc k) a h = absurd (omega arith)

@@ -1,25 +1,21 @@
--- What holds of a query once the checks before 11 have passed: its needed rows exist, and 11 is no later answer. A row of nonzero weight is that of a node, and there are N albedo nodes (`sr_rows_lem` and the like). After 11, `sr` refuses by 12 alone, and a draw by 13 (`nan_number`, `drawn_number`).
+-- What holds of a query once the checks before 11 have passed: its needed rows exist, and 11 is no later answer. A row of nonzero weight is that of a node, and there are N albedo nodes (`sr_rows_lem` and the like). After 11, `sr` refuses by 12 alone, and a draw by 13 (`nan_number`, `value_or_13`).
 -- A draw that ends under one allowance ends in the same way under a larger one (`sample_more`). Assumes nothing.
 use mathlib.Core.Path.{◌≡◌, refl, sym, ap, ◌∙◌}
 use mathlib.Core.Bool.{Bool, true, false, cond, not}
-use mathlib.Core.Logic.{inl, inr}
-use mathlib.Core.List.{List, [], ◌∷◌, ◌++◌}
+use mathlib.Core.Logic.{◌⊎◌, inl, inr}
+use mathlib.Core.List.{[], ◌∷◌, ◌++◌}
 use Prim.Native.Nat.{ℕ, ◌≤◌, ◌<◌}
 use native.Mathlib.Omega.{arith}
 use lib.Ieee.{Float, eq, neg}
 use Rattle.elementary.specs.Notation.{lit}
-use Rattle.answers.specs.Answer.{answered}
+use Rattle.answers.specs.Answer.{Answer, refusal, value, answered}
 use Rattle.answers.specs.Checks.{first_of}
 use Rattle.answers.proofs.Refusals.{first_none}
-use Rattle.interpolation.specs.Sample.{drawn, draw_from, sample_catmull_rom_2d}
-use Rattle.interpolation.specs.Weights.{catmull_rom_weights}
+use Rattle.interpolation.specs.Sample.{sample_catmull_rom_2d}
 use Rattle.interpolation.specs.Checks.{check9, check10}
-use Rattle.interpolation.specs.declared.weights.Weights.{Weights}
-use Rattle.interpolation.specs.declared.weights.Weights.TheVariants.{At, Outside}
-use Rattle.interpolation.specs.declared.solve.Solved.{Solved}
-use Rattle.interpolation.specs.declared.solve.Solved.TheVariants.{At as SolvedAt, Exhausted}
 use Rattle.interpolation.specs.declared.sample.Sample.{Sample}
 use Rattle.interpolation.specs.declared.sample.Sample.TheVariants.{Refused}
+use Rattle.interpolation.proofs.Draws.{of_draw}
 use Rattle.interpolation.proofs.Allowance as allowances
 use Rattle.scattering.specs.Literals.{one}
 use Rattle.scattering.specs.Spectrum.{channel, has_nans}
@@ -75,28 +71,30 @@ nan_number s out = go (has_nans s)
     go true h = omega arith
     go false h = omega arith
 
--- a draw by 13
-module _ (sigma : Float) (nodes2 : List Float) where
-  by_solved : (i : ℕ) (maximum : Float) (found : Solved) → (divided sigma (drawn nodes2 i maximum found)).number ≡ 11 → ⊥
-  unfolding divided drawn
-  by_solved i maximum (SolvedAt t v rounds) h = omega arith
-  by_solved i maximum Exhausted h = omega arith
+-- a draw by 13, or it is a value
+abbrev pub ValueOr13 : Answer → Type 0
+ValueOr13 a = (a ≡ value a.floats a.wholes) ⊎ (a ≡ refusal 13)
 
-  by_weights : (values cdf : List Float) (w : Weights) (u : Float) (allowance : ℕ) → (divided sigma (draw_from nodes2 values cdf w u allowance)).number ≡ 11 → ⊥
-  unfolding divided draw_from
-  by_weights values cdf (At offset f) u allowance h = by_solved _ _ _ h
-  by_weights values cdf Outside u allowance h = omega arith
-
-pub drawn_number : (t : Lists) (ch : RGBEnum) (c : Coefficients) (u : Float) (allowance : ℕ) → (drawn_at t ch c u allowance).number ≡ 11 → ⊥
-unfolding drawn_at sample_catmull_rom_2d
-drawn_number t ch c u allowance = go (eq sigma (lit 0))
+pub value_or_13 : (t : Lists) (ch : RGBEnum) (c : Coefficients) (u : Float) (allowance : ℕ) → ValueOr13 (drawn_at t ch c u allowance)
+unfolding drawn_at divided
+value_or_13 t ch c u allowance = go (eq sigma (lit 0))
   where
     sigma : Float
     sigma = channel (sigma_t c) ch
 
-    go : (b : Bool) → (cond b (drawn_value (neg one) 0) (divided sigma (draw_from t.radius_samples t.profile t.profile_cdf (catmull_rom_weights t.rho_samples (channel (rho c) ch)) u allowance))).number ≡ 11 → ⊥
-    go true h = omega arith
-    go false h = by_weights sigma t.radius_samples _ _ (catmull_rom_weights t.rho_samples (channel (rho c) ch)) u allowance h
+    sample : Sample
+    sample = sample_catmull_rom_2d t.rho_samples t.radius_samples t.profile t.profile_cdf (channel (rho c) ch) u allowance
+
+    go : (b : Bool) → ValueOr13 (cond b (drawn_value (neg one) 0) (divided sigma sample))
+    go true = inl refl
+    go false = of_draw (λ s. ValueOr13 (divided sigma s)) (λ p v d n. inl refl) (inl refl) (inr refl) _ _ _ _ _ u allowance
+
+pub drawn_number : (t : Lists) (ch : RGBEnum) (c : Coefficients) (u : Float) (allowance : ℕ) → (drawn_at t ch c u allowance).number ≡ 11 → ⊥
+drawn_number t ch c u allowance h =
+    elim (value_or_13 t ch c u allowance) [
+      | inl e ↦ omega (arith, ap (λ (a : Answer). a.number) e, h)
+      | inr e ↦ omega (arith, ap (λ (a : Answer). a.number) e, h)
+    ]
 
 -- ---- a larger allowance
 

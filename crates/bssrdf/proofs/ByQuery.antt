@@ -1,39 +1,32 @@
 -- The laws of questions, said of each query by its own name: they are those of `QueryLaws`, of the question that the query is. Beside them, that `sr` makes its checks in one row, 12 after 11 (`sr_in_a_row`), as the other two are defined;
 -- and that a refusal of a query has a number above 0, so that a value may be told by the number, too (`sr_numbered`, `pdf_numbered`, `sample_numbered`). Assumes nothing.
-use mathlib.Core.Path.{◌≡◌, refl}
-use mathlib.Core.Bool.{Bool, true, false, cond}
-use mathlib.Core.Logic.{◌↔◌}
-use mathlib.Core.List.{List, [], ◌∷◌}
+use mathlib.Core.Path.{◌≡◌, refl, sym, subst}
+use mathlib.Core.Bool.{true, false}
+use mathlib.Core.Logic.{◌↔◌, inl, inr}
+use mathlib.Core.List.{[], ◌∷◌}
 use Prim.Native.Nat.{ℕ, zero, suc, ◌≤◌}
 use native.Mathlib.Omega.{arith}
-use lib.Ieee.{Float, eq, inf, neg}
+use lib.Ieee.{Float, inf}
 use Rattle.elementary.specs.Notation.{lit}
 use Rattle.answers.specs.Answer.{Answer, refusal, answered}
 use Rattle.answers.specs.Checks.{first_of}
 use Rattle.answers.proofs.Numbers.{Numbered, value_numbered, refusal_numbered, answered_numbered}
 use Rattle.interpolation.specs.Checks.{check10}
-use Rattle.interpolation.specs.Sample.{drawn, draw_from, sample_catmull_rom_2d}
-use Rattle.interpolation.specs.Weights.{catmull_rom_weights}
-use Rattle.interpolation.specs.declared.weights.Weights.{Weights}
-use Rattle.interpolation.specs.declared.weights.Weights.TheVariants.{At, Outside}
-use Rattle.interpolation.specs.declared.solve.Solved.{Solved}
-use Rattle.interpolation.specs.declared.solve.Solved.TheVariants.{At as SolvedAt, Exhausted}
-use Rattle.scattering.specs.Literals.{one}
-use Rattle.scattering.specs.Spectrum.{channel, clamp}
+use Rattle.scattering.specs.Spectrum.{clamp}
 use Rattle.scattering.specs.Exitance.{spectrum_value}
 use Rattle.scattering.specs.declared.spectrum.RGBEnum.{RGBEnum}
 use Rattle.table.specs.Parameters.{Lists}
 use Rattle.table.specs.declared.parameters.Record.{Record}
-use Rattle.bssrdf.specs.Coefficients.{sigma_t, rho}
 use Rattle.bssrdf.specs.Needed.{pdf_rows, sr_rows, sample_rows, among}
 use Rattle.bssrdf.specs.Checks.{check11, check12, query_number, draw_number}
 use Rattle.bssrdf.specs.Question.{posed}
 use Rattle.bssrdf.specs.Radiance.{unclamped, sr_question, sr}
 use Rattle.bssrdf.specs.Density.{density_at, pdf_question, pdf_sr}
-use Rattle.bssrdf.specs.Drawing.{drawn_value, divided, drawn_at, sample_question, sample_sr}
+use Rattle.bssrdf.specs.Drawing.{drawn_at, sample_question, sample_sr}
 use Rattle.bssrdf.specs.Laws.{Alike, NodesHold, Missing}
 use Rattle.bssrdf.specs.declared.coefficients.Coefficients.{Coefficients}
 use Rattle.bssrdf.specs.declared.coefficients.WorldRadius.{WorldRadius}
+use Rattle.bssrdf.proofs.AfterChecks.{value_or_13}
 use Rattle.bssrdf.proofs.QueryLaws.{query_laws}
 
 -- ---- a query depends on the rows that it needs alone: its answer is the same on tables alike in these
@@ -91,30 +84,12 @@ pub pdf_numbered : (r : Record) (t : Lists) (ch : RGBEnum) (c : Coefficients) (x
 unfolding pdf_sr pdf_question posed
 pdf_numbered r t ch c x = answered_numbered _ _ (value_numbered (density_at r t ch c x ∷ []) [])
 
-module _ (sigma : Float) (nodes2 : List Float) where
-  by_solved : (i : ℕ) (maximum : Float) (found : Solved) → Numbered (divided sigma (drawn nodes2 i maximum found))
-  unfolding divided drawn
-  by_solved i maximum (SolvedAt t v rounds) = value_numbered _ _
-  by_solved i maximum Exhausted = refusal_numbered 13 (omega arith)
-
-  by_weights : (values cdf : List Float) (w : Weights) (u : Float) (allowance : ℕ) → Numbered (divided sigma (draw_from nodes2 values cdf w u allowance))
-  unfolding divided draw_from
-  by_weights values cdf (At offset f) u allowance = by_solved _ _ _
-  by_weights values cdf Outside u allowance = value_numbered _ _
-
 drawn_numbered : (t : Lists) (ch : RGBEnum) (c : Coefficients) (u : Float) (allowance : ℕ) → Numbered (drawn_at t ch c u allowance)
-unfolding drawn_at sample_catmull_rom_2d
-drawn_numbered t ch c u allowance = go (eq sigma (lit 0))
-  where
-    sigma : Float
-    sigma = channel (sigma_t c) ch
-
-    w : Weights
-    w = catmull_rom_weights t.rho_samples (channel (rho c) ch)
-
-    go : (b : Bool) → Numbered (cond b (drawn_value (neg one) 0) (divided sigma (draw_from t.radius_samples t.profile t.profile_cdf w u allowance)))
-    go true = value_numbered _ _
-    go false = by_weights sigma t.radius_samples _ _ w u allowance
+drawn_numbered t ch c u allowance =
+    elim (value_or_13 t ch c u allowance) [
+      | inl e ↦ subst Numbered (sym e) (value_numbered _ _)
+      | inr e ↦ subst Numbered (sym e) (refusal_numbered 13 (omega arith))
+    ]
 
 pub sample_numbered : (r : Record) (t : Lists) (ch : RGBEnum) (c : Coefficients) (u : Float) (allowance : ℕ) → Numbered (sample_sr r t ch c u allowance)
 unfolding sample_sr sample_question posed

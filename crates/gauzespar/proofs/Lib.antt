@@ -1,3 +1,4 @@
--- What the proofs of the calls cite.
+-- What the proofs of the calls cite, and what a number returned says.
+pub mod Replies
 pub mod Refusals
 pub mod Opened

@@ -28,6 +28,7 @@ use Rattle.interpolation.specs.declared.sample.Sample.{Sample}
 use Rattle.interpolation.specs.declared.sample.Sample.TheVariants.{Refused}
 use Rattle.answers.proofs.Refusals.{first_none, not_refused, answers}
 use Rattle.interpolation.proofs.Refusals.{allowance_in_range, allowance_passes}
+use Rattle.interpolation.proofs.Draws.{offered_numbered}
 
 -- what an end after `rounds` says of the rounds from t, a and b on, after `made`
 pub record Ended (s : Segment) (left made rounds : ℕ) (t a b x v : Float) : Type 0 where
@@ -150,3 +151,9 @@ offered_more nodes1 nodes2 values cdf alpha u allowance other h l m =
       answers (number other) (sample_told (sample other)) (number_more nodes1 nodes2 values cdf u allowance other n l m),
       sample_more nodes1 nodes2 values cdf alpha u allowance other (told_13 (sample allowance) k) l,
     )
+
+-- a value is told by the number, too
+pub offered_more_by_number : (nodes1 nodes2 values cdf : List Float) (alpha u : Float) (allowance other : ℕ) → (sample2d nodes1 nodes2 values cdf alpha u allowance).number ≡ 0 → allowance ≤ other → other ≤ max_allowance
+    → sample2d nodes1 nodes2 values cdf alpha u other ≡ sample2d nodes1 nodes2 values cdf alpha u allowance
+offered_more_by_number nodes1 nodes2 values cdf alpha u allowance other h =
+    offered_more nodes1 nodes2 values cdf alpha u allowance other ((offered_numbered nodes1 nodes2 values cdf alpha u allowance).value_by_0 h)

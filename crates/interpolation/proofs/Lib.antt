@@ -19,6 +19,7 @@ pub mod Needed
 -- refusals, rounds and allowances
 pub mod Refusals
 pub mod Ending
+pub mod Draws
 pub mod Allowance
 -- by computation
 pub mod Table

@@ -18,6 +18,7 @@ use Rattle.bssrdf.specs.Laws.{QueryLaws}
 use Rattle.bssrdf.specs.Radiance.{sr_question, sr}
 use Rattle.bssrdf.specs.Density.{pdf_question, pdf_sr}
 use Rattle.bssrdf.specs.Drawing.{sample_question, sample_sr}
+use Rattle.bssrdf.proofs.QueryLaws.{query_laws}
 use Rattle.bssrdf.proofs.ByQuery.{sr_numbered, pdf_numbered, sample_numbered}
 use Rattle.workstations.specs.Calls.{Query, Sr, PdfSr, SampleSr, Call, Build, Ask, question, needed_rows, order_number, ask, step, Run, run}
 use Rattle.workstations.specs.Tally.{rows_after, answers_from, rows_built, tallied}
@@ -119,3 +120,7 @@ joint_by_start laws =
       row_missing = λ r w q o. j.row_missing r (opened_by w) q o;
       keeps = λ r t. ((λ h. (j.keeps r t).0 ((start_numbered r t).refused_above_0 h)), λ c h. (j.keeps r t).1 c ((step_numbered r t c).refused_above_0 h));
     }
+
+-- with the laws of queries, as they are proved
+pub claim : JointByStart
+claim = joint_by_start query_laws
