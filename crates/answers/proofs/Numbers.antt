@@ -1,4 +1,4 @@
--- Whether a call was refused, by the number alone: a value has the number 0, and a refusal of document 01 never has. A refusal by checks has the number of a check, which is above 0; so what a call answers has it if what it answers after its checks has it. Assumes nothing.
+-- Whether a call was refused, by the number alone: a value has the number 0, and a refusal of document 01 has a number above 0. An answer of which that is true is `Numbered`. Values are, and refusals by a number above 0; and where what a call answers after its checks is, so is what it answers. Assumes nothing.
 use mathlib.Core.Path.{◌≡◌, refl}
 use mathlib.Core.Bool.{true, false}
 use mathlib.Core.List.{List}
@@ -9,16 +9,16 @@ use lib.IntN.{ℤ}
 use lib.Ieee.{Float}
 use Rattle.answers.specs.Answer.{Answer, refusal, value, answered}
 
+-- the number tells whether the answer is a value or a refusal
 pub record Numbered (a : Answer) : Type 0 where
   pub value_by_0 : a.number ≡ 0 → a.refused ≡ false
   pub refused_above_0 : 0 < a.number → a.refused ≡ true
-  pub number_of_refused : a.refused ≡ true → 0 < a.number
 
 pub value_numbered : (floats : List Float) (wholes : List ℤ) → Numbered (value floats wholes)
-value_numbered floats wholes = record { value_by_0 = λ e. refl; refused_above_0 = λ h. absurd (omega arith); number_of_refused = λ e. cc }
+value_numbered floats wholes = record { value_by_0 = λ e. refl; refused_above_0 = λ h. absurd (omega arith) }
 
 pub refusal_numbered : (k : ℕ) → 0 < k → Numbered (refusal k)
-refusal_numbered k h = record { value_by_0 = λ e. absurd (omega arith); refused_above_0 = λ l. refl; number_of_refused = λ e. h }
+refusal_numbered k h = record { value_by_0 = λ e. absurd (omega arith); refused_above_0 = λ l. refl }
 
 pub answered_numbered : (k : ℕ) (a : Answer) → Numbered a → Numbered (answered k a)
 unfolding answered

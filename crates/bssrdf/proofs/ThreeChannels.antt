@@ -95,8 +95,8 @@ module _ (rho radii : List Float) (rhos xs : List Float) (inside : List Bool) (i
       → at ≡ three_of (λ k. node_interval rho (get_or rhos k nan)) → ws ≡ three_weights rho rhos at → at' ≡ three_of (λ k. node_interval radii (get_or xs k nan)) → ws' ≡ three_weights radii xs at' → (k : ℕ) → k < 3
       → channel_sr profile m x (weights_by (get_or inside k false) (get_or at k 0) (get_or ws k [])) (weights_by (get_or inside k false) (get_or at' k 0) (get_or ws' k []))
       ≡ channel_sr profile m x (catmull_rom_weights rho (get_or rhos k nan)) (catmull_rom_weights radii (get_or xs k nan))
-  channel_k profile m x at ws at' ws' two two' at_is ws_is at-is' ws-is' k l =
-      (λ i. channel_sr profile m x (by_k rho rhos at two at_is ws ws_is (both_k k l i) k l i) (by_k radii xs at' two' at-is' ws' ws-is' (both_k k l i) k l i))
+  channel_k profile m x at ws at' ws' two two' at_is ws_is at_is' ws_is' k l =
+      (λ i. channel_sr profile m x (by_k rho rhos at two at_is ws ws_is (both_k k l i) k l i) (by_k radii xs at' two' at_is' ws' ws_is' (both_k k l i) k l i))
       ∙ sr_both profile m x _ _ _ _ (within rho (get_or rhos k nan)) (within radii (get_or xs k nan))
       ∙ (λ i. channel_sr profile m x (weights_are rho (get_or rhos k nan) i) (weights_are radii (get_or xs k nan) i))
 

@@ -131,9 +131,9 @@ fn three_channels(
     radius_at: [usize; 3],
     radius_weights: [[f32; 4]; 3],
 ) -> Spectrum
-    requires by_index { (k : ℕ) → k < 3 → get_or inside k false ≡ true
+    requires readable { (k : ℕ) → k < 3 → get_or inside k false ≡ true
         → Spec.Readable profile.now m (get_or rho_at k 0) (four_of (get_or rho_weights k [])) (get_or radius_at k 0) (four_of (get_or radius_weights k [])) }
-    requires by_index_2 { (k : ℕ) → k < 3 → (get_or rho_at k 0 ≤ 0x7fff_ffff) × (get_or radius_at k 0 ≤ 0x7fff_ffff) }
+    requires small { (k : ℕ) → k < 3 → (get_or rho_at k 0 ≤ 0x7fff_ffff) × (get_or radius_at k 0 ≤ 0x7fff_ffff) }
     ensures { result ≡ rgb (Spec.channel_by profile.now m (optical x sigma_t.r) inside rho_at rho_weights radius_at radius_weights 0)
         (Spec.channel_by profile.now m (optical x sigma_t.g) inside rho_at rho_weights radius_at radius_weights 1)
         (Spec.channel_by profile.now m (optical x sigma_t.b) inside rho_at rho_weights radius_at radius_weights 2) }

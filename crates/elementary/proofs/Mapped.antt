@@ -57,6 +57,11 @@ pub map_then : (g f : Float → Float) (old xs : List Float) → length xs ≡ l
 map_then g f old xs e done =
     filled_map f old (map g xs) (length_map g xs ∙ e) (λ k h. let l : k < length xs = omega arith in get_or_map g xs k l ∙ done k h)
 
+-- so where f made each element of `xs`, and then g is made of it
+pub fills_then : (g f : Float → Float) (old : List Float) {xs ys : List Float} {i : ℕ} → length old ≤ i → Fills (λ k. f (get_or old k nan)) xs (length old) i → ys ≡ map g xs
+    → ys ≡ map (λ x. g (f x)) old
+fills_then g f old {xs = xs} h l e = e ∙ map_then g (λ x. g (f x)) old xs l.as_long (λ k m. ap g (l.done k (omega arith)))
+
 pub map_listed : (g : Float → Float) (f : ℕ → Float) (xs : List Float) (n : ℕ) → length xs ≡ n → ((k : ℕ) → k < n → g (get_or xs k nan) ≡ f k) → map g xs ≡ list_of n f
 map_listed g f xs n e done =
     filled_all f (map g xs) n (length_map g xs ∙ e) (λ k h. let l : k < length xs = omega arith in get_or_map g xs k l ∙ done k h)

@@ -14,7 +14,7 @@ abbrev pub units_of : ℕ → ℕ → ℕ
 units_of zero digits = digits
 units_of (suc k) digits = (2 ^ 23 + digits) * 2 ^ k
 
--- a units, written with a significand q of 24 digits: a is q * 2 ^ size / 2 ^ 24, and has `size` digits
+-- a units, written with a significand q of 24 digits: a is q * 2 ^ size / 2 ^ 24, and its length in binary digits is the number `size`
 pub record Normalised (a q size : ℕ) : Type 0 where
   pub low : 2 ^ 23 ≤ q
   pub high : q < 2 ^ 24

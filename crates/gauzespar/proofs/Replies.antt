@@ -60,7 +60,7 @@ unfolding answered
 kept zero h = absurd (omega arith)
 kept (suc y) h = record { told = refl; positive = h }
 
--- an answer is numbered if nothing but a value has 0
+-- an answer is numbered if its number tells it: nothing but a value has 0, and a refusal is its number alone
 abbrev pub Numbered : Answer → Type 0
 Numbered a = Tells a.number a
 

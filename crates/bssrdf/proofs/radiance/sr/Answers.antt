@@ -42,15 +42,15 @@ pub three_radius_weights-radius_weights-requires : goal.three_radius_weights-rad
 three_radius_weights-radius_weights-requires c k l =
     omega (arith, inside_k _ (radius_values c.optical_radii-xs.result) _ (two_radii _ _ _ (nothing _ _ c.query_number-number.ensures c.if-number-gt0.false)) c.radius_intervals-radius_at.ensures k l)
 
-pub three_channels-optical-requires-clause-by_index : goal.three_channels-optical-requires-clause-by_index
-three_channels-optical-requires-clause-by_index c =
-    readable (albedos (goal.at.three_channels-optical-requires-clause-by_index c).After-three_weights-rho_weights)
+pub three_channels-optical-requires-clause-readable : goal.three_channels-optical-requires-clause-readable
+three_channels-optical-requires-clause-readable c =
+    readable (albedos (goal.at.three_channels-optical-requires-clause-readable c).After-three_weights-rho_weights)
     (record { at_is = c.radius_intervals-radius_at.ensures; ws_is = c.three_radius_weights-radius_weights.ensures })
     (record { rho = c.type_inv.rho_samples; radii = c.type_inv.radius_samples })
 
-pub three_channels-optical-requires-clause-by_index_2 : goal.three_channels-optical-requires-clause-by_index_2
-three_channels-optical-requires-clause-by_index_2 c k l =
-    let A = albedos (goal.at.three_channels-optical-requires-clause-by_index_2 c).After-three_weights-rho_weights in
+pub three_channels-optical-requires-clause-small : goal.three_channels-optical-requires-clause-small
+three_channels-optical-requires-clause-small c k l =
+    let A = albedos (goal.at.three_channels-optical-requires-clause-small c).After-three_weights-rho_weights in
     (rho_small A k l, radius_small A (record { at_is = c.radius_intervals-radius_at.ensures; ws_is = c.three_radius_weights-radius_weights.ensures }) k l)
 
 pub returns : goal.returns
