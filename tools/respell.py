@@ -2,11 +2,11 @@
 """Turns the repository's own definitions and lemmas to the language's spelling: functions, lemmas and
 fields of specs/ and proofs/ in snake case. Usage: respell.py [FOLDER], with crates/ below it.
 
-A name is turned where a crate's .antt files declare it, in all .antt and .rt files, must-fail edits, and
-the pages of docs/ and README.md. A lemma that would have its function's name gets `_lem`. Names that
-Rattle makes (goals and what stands before them), those of src/ and those of its library stay, as do
-types, modules and constructors, and letters in strings. What falls together is printed: nothing, or the
-name of both."""
+Turned are the names that the crates' .antt files declare, names with capitals inside that they bind, and
+names with dashes that a file binds: in all .antt and .rt files, must-fail edits, and the pages of docs/ and
+README.md. A lemma that would have the name of a function gets `_lem`. Names that Rattle makes (goals and
+what stands before them), those of src/ and those of its library stay, as do types, modules, constructors
+and strings. Where two names would become one, that is printed. Run again, it changes nothing."""
 
 import collections
 import os
