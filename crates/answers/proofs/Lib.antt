@@ -1,3 +1,4 @@
 -- The laws of refusals.
 pub mod Refusals
 pub mod Numbers
+pub mod Results

@@ -67,7 +67,7 @@ unfolding written
 writes zero new old h = refl
 writes (suc k) new old h = absurd (omega arith)
 
--- ---- what the functions of the code name
+-- ---- sets of these laws; those that functions of the code name are in `Results`
 
 -- a chain of checks: the first number that is not 0 is the answer
 pub ruleset chain = (first_here, first_next, first_last)

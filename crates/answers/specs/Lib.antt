@@ -1,3 +1,4 @@
 -- The definitions that other crates cite.
 pub mod Answer
 pub mod Checks
+pub mod Refusal
