@@ -1,6 +1,6 @@
 -- Each constant of the definitions has the bits that its decimal literal rounds to, by computation. Assumes nothing.
-use Rattle.std.proofs.Common.{◌≡◌, refl}
-use lib.Ieee.{binary32, binary64, round, of_bits}
+use Rattle.std.proofs.Common.{◌≡◌, false, refl}
+use lib.Ieee.{nan, inf, binary32, binary64, round, of_bits}
 use Rattle.elementary.specs.Notation.{lit, one64, decimal}
 use Rattle.elementary.specs.Constants.{pi, inv_4_pi}
 use Rattle.elementary.specs.Exponential.{c256}
@@ -57,3 +57,14 @@ c256_literal = refl
 pub ln2_literal : ln2 ≡ decimal binary64 6931471805599453 16
 unfolding round of_bits
 ln2_literal = refl
+
+-- the patterns of `f32::INFINITY` and `f32::NAN`
+pub infinity_bits : lit 0x7f80_0000 ≡ inf false
+unfolding of_bits
+infinity_bits = refl
+
+pub nan_bits : lit 0x7fc0_0000 ≡ nan
+unfolding of_bits
+nan_bits = refl
+
+pub ruleset specials = (infinity_bits, nan_bits)

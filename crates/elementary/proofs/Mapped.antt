@@ -1,19 +1,17 @@
 -- Lists that are a function of another, element by element: `map` by its elements, and the loops that make such a list, in its place or in another. Assumes nothing.
-use Rattle.std.proofs.Common.{◌≡◌, ℕ, zero, suc, ◌+◌, ◌<◌, ◌≤◌, List, [], ◌∷◌, map, length, get_or, set, sym, refl, ap, ◌∙◌, arith, length-set, get_or-set_other, ext_get_or}
+use Rattle.std.proofs.Common.{◌≡◌, ℕ, ◌+◌, ◌<◌, ◌≤◌, List, map, length, get_or, set, sym, refl, ap, ◌∙◌, arith, length-set, get_or-set_other, ext_get_or}
+use Rattle.std.proofs.lemmas.List.{length-map, get_or-map}
 use lib.Ieee.{Float, nan}
 use Rattle.elementary.specs.Lists.{list_of}
 use Rattle.elementary.proofs.Filled.{Filled, Fills, filled_none, filled_more, fills_more, length_list_of, get_or_list_of, filled_all, sum_to_same}
 
--- ---- `map` by its elements
+-- ---- `map` by its elements: the library's laws at floats, as the sets below need them
 
 pub length_map : (f : Float → Float) (xs : List Float) → length (map f xs) ≡ length xs
-length_map f [] = refl
-length_map f (x ∷ xs) = ap suc (length_map f xs)
+length_map f xs = length-map xs f
 
 pub get_or_map : (f : Float → Float) (xs : List Float) (k : ℕ) → k < length xs → get_or (map f xs) k nan ≡ f (get_or xs k nan)
-get_or_map f [] k h = absurd (omega arith)
-get_or_map f (x ∷ xs) zero h = refl
-get_or_map f (x ∷ xs) (suc k) h = get_or_map f xs k (omega arith)
+get_or_map f xs k h = get_or-map f xs k nan nan h
 
 -- ---- a loop that replaces each element in its place
 
@@ -66,7 +64,7 @@ pub map_listed : (g : Float → Float) (f : ℕ → Float) (xs : List Float) (n 
 map_listed g f xs n e done =
     filled_all f (map g xs) n (length_map g xs ∙ e) (λ k h. let l : k < length xs = omega arith in get_or_map g xs k l ∙ done k h)
 
--- ---- what the functions of the code name
+-- ---- sets of these laws
 
 -- a loop with the invariant `FillsFrom`, also where each element is then replaced in its place
 pub ruleset filling = (fills_more, filled_map, map_then)

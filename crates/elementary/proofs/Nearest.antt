@@ -14,7 +14,7 @@ use Rattle.elementary.proofs.Scaled.{subnormal, normal, root_nearest}
 
 -- ---- `sqrt` by the size of its argument in units
 
-sqrt_mag : (x : Float) → T (positive x) → root_of (mag x) ≡ sqrt x
+pub sqrt_mag : (x : Float) → T (positive x) → root_of (mag x) ≡ sqrt x
 unfolding sqrt
 sqrt_mag nan p = absurd p
 sqrt_mag (inf s) p = absurd p

@@ -36,6 +36,8 @@ squared_none (suc i) p z = absurd (omega arith)
 squared_none zero [] z = refl
 squared_none zero (x ∷ p) z = ap (λ q. x ∷ q) (squared_none zero p z)
 
+pub ruleset squares = (squares_pair, squared_none)
+
 -- ---- the series, term by term
 
 abbrev with_term : Float → Float → Float → Float

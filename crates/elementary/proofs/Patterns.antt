@@ -1,8 +1,9 @@
 -- How `f32::from_bits` is read at a number k * 2 ^ 23 + q, with the sign's bit before it: as q * 2 ^ k of the format's smallest values (`packed`), or, from 255 * 2 ^ 23 on, where that is past the format's end, as an infinity (`past`).
 -- q is 2 ^ 24 at most, and if k is not 0 it is 2 ^ 23 at least. Its leading digit adds one to the exponent's field, and at 2 ^ 24 the carry does it twice. Assumes nothing.
 use Rattle.std.proofs.Common.{◌≡◌, ℕ, suc, ◌+◌, ◌-◌, ◌*◌, ◌/◌, ◌%◌, ◌^◌, ◌<◌, ◌≤◌, Bool, true, false, cond, not, T, ltb, leb, ◌⊎◌, sym, refl, ap, ◌∙◌, subst, inl, inr, le_trans, le_of_eq, lt_of_lt_of_le, lt_of_le_of_lt, mul-le-mul_right, mul_assoc, eq-or-lt_of_le, zero-add, not-le_of_lt, arith, lit<, lit≤, le→leb, ltb→lt, lt→ltb, leb→le, pow_mono, pow-add, shl_lt}
+use Rattle.std.proofs.lemmas.Bool.{cases_lt}
 use native.Mathlib.Nat.{pow-succ'}
-use lib.Dec.{not_T, nleb→lt}
+use lib.Dec.{not_T}
 use lib.Pow.{pow-lt}
 use lib.Ieee.{Float, Format, nan, inf, fin, binary32, fits, odd, units, hid, ones, top, is_nan, of_fields, of_bits, nan_bits}
 use lib.Ieee.Fits.{odd-fits, inf-fits}
@@ -11,11 +12,7 @@ use lib.Ieee.Exact.{HasValue, units_val}
 use Rattle.elementary.proofs.Values.{unique, read_low, read_high, read_top}
 
 pub le_or_lt : (a b : ℕ) → (a ≤ b) ⊎ (b < a)
-le_or_lt a b = go (leb a b) (leb→le a b) (nleb→lt a b)
-  where
-    go : (t : Bool) → (T t → a ≤ b) → (T (not t) → b < a) → (a ≤ b) ⊎ (b < a)
-    go true h k = inl (h tt)
-    go false h k = inr (k tt)
+le_or_lt a b = elim (cases_lt b a) [ inl h ↦ inr h | inr h ↦ inl h ]
 
 -- ---- the three fields
 

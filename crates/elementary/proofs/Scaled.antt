@@ -83,7 +83,7 @@ module _ (a q length : ℕ) (N : Normalised a q length) where
   abbrev root : ℕ
   root = nearest_root (scaled q length)
 
-  length_is : size a ≡ length
+  pub length_is : size a ≡ length
   length_is =
       let A : 0 < a = first_pos a (2 ^ 24) (subst (λ (z : ℕ). 0 < z) (sym N.is) (mul-pos (lt_of_lt_of_le (lit< tt) N.low) (pow_pos length))) in
       omega (arith, size_shifted a 24 A, ap size N.is, size_normal q length N.low N.high)

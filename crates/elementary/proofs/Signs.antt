@@ -4,6 +4,7 @@ use mathlib.Core.Bool.{false≢true}
 use lib.Ieee.{Float, nan, inf, fin, up, down, neg, lt, eq, of_bits}
 use lib.Ieee.Fits.{up_pos, down_pos}
 use Rattle.elementary.specs.Notation.{lit}
+use Rattle.std.specs.Float as Float
 use Rattle.elementary.specs.Sign.{abs}
 
 pub data Below : Float → Type 0 where
@@ -18,6 +19,13 @@ pub data Other : Float → Type 0 where
   nan_other : Other nan
   inf_other : Other (inf false)
   fin_other : (m : ℕ) (e : ℤ) → Other (fin false (suc m) e)
+
+-- the library's value with its sign cleared
+pub abs_is : (x : Float) → Float.float_with_sign false x ≡ abs x
+unfolding Float.float_with_sign abs
+abs_is nan = refl
+abs_is (inf s) = refl
+abs_is (fin s m e) = refl
 
 some : (m : ℕ) (e : ℤ) → 0 < suc m * up e
 some m e = mul-pos (zero-lt-suc m) (up_pos e)

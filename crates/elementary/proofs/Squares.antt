@@ -93,7 +93,7 @@ nearest_ge n l h =
     omega arith
 
 -- what the code tests: the squares of 2 * g - 1 and 2 * g + 1 differ by 8 * g
-pub certified : (n g : ℕ) → 4 * n < (2 * g + 1) * (2 * g + 1) → (2 * g + 1) * (2 * g + 1) < 4 * n + 8 * g → Between n g
+certified : (n g : ℕ) → 4 * n < (2 * g + 1) * (2 * g + 1) → (2 * g + 1) * (2 * g + 1) < 4 * n + 8 * g → Between n g
 certified n zero up dn = (omega arith, up)
 certified n (suc h) up dn =
     let s : 2 * suc h - 1 ≡ 2 * h + 1 = omega arith in
@@ -101,3 +101,6 @@ certified n (suc h) up dn =
     let q : (h + 1) * (h + 1) ≡ h * h + 2 * h + 1 = omega (arith, add-mul h 1 (h + 1), mul-add h h 1) in
     let lower : (2 * (h + 1) + 1) * (2 * (h + 1) + 1) < 4 * n + 8 * suc h = subst (λ (z : ℕ). z * z < 4 * n + 8 * suc h) e dn in
     (subst (λ (z : ℕ). z * z < 4 * n) (sym s) (omega (arith, odd_square h, odd_square (h + 1))), up)
+
+pub certified_is : (n g : ℕ) → 0 < n → n + 2 ^ 24 ≤ 2 ^ 48 → 4 * n < (2 * g + 1) * (2 * g + 1) → (2 * g + 1) * (2 * g + 1) < 4 * n + 8 * g → g ≡ nearest_root n
+certified_is n g P h up dn = between_unique n g (nearest_root n) (certified n g up dn) (nearest_between n P h)

@@ -72,6 +72,16 @@ equals_itself nan h = absurd (true≢false h)
 equals_itself (inf s) h = tt
 equals_itself (fin s m e) h = tt
 
+-- and the same by `is_nan`
+pub told_nan : {b : Bool} (x : Float) → b ≡ is_nan x → b ≡ true → x ≡ nan
+unfolding is_nan
+told_nan nan e h = refl
+told_nan (inf s) e h = absurd (true≢false (sym h ∙ e))
+told_nan (fin s m t) e h = absurd (true≢false (sym h ∙ e))
+
+pub told_number : {b : Bool} (x : Float) → b ≡ is_nan x → b ≡ false → T (not (is_nan x))
+told_number x e h = subst (λ (b : Bool). T (not b)) (sym h ∙ e) tt
+
 pub ne_itself : (x : Float) → ne x x ≡ is_nan x
 unfolding is_nan
 ne_itself x = told x (ne x x) refl

@@ -16,15 +16,17 @@ pub fn constants_by_bits()
 {}
 
 // A NaN.
+#[tactic(auto, using(crate::proofs::Literals::specials))]
 pub fn nan() -> f32
     ensures { result ≡ Ieee.nan }
 {
-    0.0 / 0.0
+    f32::NAN
 }
 
 // Positive infinity.
+#[tactic(auto, using(crate::proofs::Literals::specials))]
 pub fn infinity() -> f32
     ensures { result ≡ Ieee.inf false }
 {
-    1.0 / 0.0
+    f32::INFINITY
 }

@@ -1,5 +1,5 @@
 // Between `f32` and `f64`.
-ghost use Rattle.std.specs.Prelude.{◌≡◌, ◌+◌, ◌*◌, ◌^◌, ◌<◌, ◌≤◌, Bool, ◌⊎◌, if◌then◌else◌, from_bits};
+ghost use Rattle.std.specs.Prelude.{◌≡◌, ◌+◌, ◌*◌, ◌^◌, ◌<◌, ◌≤◌, Bool, if◌then◌else◌, from_bits};
 ghost use Rattle.std.specs.Float.{binary32};
 ghost use Rattle.std.specs.Float.Ieee.{round};
 ghost use Rattle.std.specs.Float.Ieee.Nearest.{closest};
@@ -14,34 +14,44 @@ pub fn widen(x: f32) -> f64
     std::num::f32_to_f64_with_nan(x)
 }
 
-// q / 2 ^ d to the nearest whole number, a tie to the even one: half a unit is added and the rest
-// cut off, and where the whole part is even half a unit less one, so that a tie falls back to it.
-fn nearest(q: u64, d: u64) -> u64
-    requires digits { q < 2 ^ 53 }
-    requires some { 0 < d }
-    requires few { d < 54 }
-    ensures { result ≡ closest q (2 ^ d) }
-{
-    let half = 1u64 << (d - 1);
-    (q + (half - 1) + (q >> d) % 2) >> d
+// The size of a finite `f64`, q * 2 ^ j / 2 ^ 1074: q has 53 digits, or fewer where j is 0.
+#[derive(Clone, Copy)]
+struct Magnitude {
+    q: u64,
+    j: u64,
+    ghost digits: { q < 2 ^ 53 },
+    ghost exponent: { j < 2046 },
+    ghost normal: { 0 < j → 2 ^ 52 ≤ q },
 }
 
-// The pattern, without its sign, of the `f32` nearest to q * 2 ^ j / 2 ^ 1074: k * 2 ^ 23 + kept,
-// where kept * 2 ^ k is the rounded magnitude in units of 2 ^ -149. The leading digit of kept adds
-// one to the exponent's field, and a carry out of the rounding moves on into it.
-fn pack(q: u64, j: u64) -> u64
-    requires digits { q < 2 ^ 53 }
-    requires exponent { j < 2046 }
-    requires normal { (j ≡ 0) ⊎ (2 ^ 52 ≤ q) }
-    ensures { (result ≤ 0x7f80_0000) × ((s : Bool) → from_bits binary32 ((if s then 2 ^ 31 else 0) + result) ≡ round binary32 s (q * 2 ^ j) (2 ^ 1074)) }
-{
-    let size = 64 - (u64::leading_zeros(q) as u64);
-    if 949 < size + j {
-        let r = (size + j - 949) * 0x80_0000 + nearest(q, size - 24);
-        if r < 0x7f80_0000 { r } else { 0x7f80_0000 }
-    } else {
-        // 925 - j digits of q lie below 2 ^ -149: from 54 on, q is less than half of it
-        if j < 872 { 0 } else { nearest(q, 925 - j) }
+impl Magnitude {
+    // q / 2 ^ d to the nearest whole number, a tie to the even one: half a unit is added and the
+    // rest cut off, and where the whole part is even half a unit less one, so that a tie falls back
+    // to it.
+    fn nearest(self, d: u64) -> u64
+        requires some { 0 < d }
+        requires few { d < 54 }
+        ensures { result ≡ closest self.q (2 ^ d) }
+    {
+        let half = 1u64 << (d - 1);
+        (self.q + (half - 1) + (self.q >> d) % 2) >> d
+    }
+
+    // The pattern, without its sign, of the nearest `f32`: k * 2 ^ 23 + kept, where kept * 2 ^ k is
+    // the rounded magnitude in units of 2 ^ -149. The leading digit of kept adds one to the
+    // exponent's field, and a carry out of the rounding moves on into it.
+    fn pack(self) -> u64
+        ensures { (result ≤ 0x7f80_0000) × ((s : Bool) → from_bits binary32 ((if s then 2 ^ 31 else 0) + result) ≡ round binary32 s (self.q * 2 ^ self.j) (2 ^ 1074)) }
+    {
+        let j = self.j;
+        let size = 64 - (u64::leading_zeros(self.q) as u64);
+        if 949 < size + j {
+            let r = (size + j - 949) * 0x80_0000 + self.nearest(size - 24);
+            if r < 0x7f80_0000 { r } else { 0x7f80_0000 }
+        } else {
+            // 925 - j digits of q lie below 2 ^ -149: from 54 on, q is less than half of it
+            if j < 872 { 0 } else { self.nearest(925 - j) }
+        }
     }
 }
 
@@ -56,11 +66,12 @@ fn signed(sign: u64, r: u64) -> f32
 }
 
 // The `f32` nearest to x, a tie to the even one. From halfway past the largest one on it is an
-// infinity.
+// infinity. It is worked out here, and not by the library's conversion, since document 01 asks for
+// that (docs/DECISIONS.md).
 pub fn narrow(x: f64) -> f32
     ensures { result ≡ Convert.narrow x }
 {
-    if x != x {
+    if x.is_nan() {
         return nan();
     }
     let bits = f64::to_bits(x);
@@ -71,7 +82,11 @@ pub fn narrow(x: f64) -> f32
         return signed(sign, 0x7f80_0000);
     }
     if field == 0 {
-        return signed(sign, pack(digits, 0));
+        return signed(sign, Magnitude { q: digits, j: 0 }.pack());
     }
-    signed(sign, pack(0x10_0000_0000_0000 + digits, field - 1))
+    let size = Magnitude {
+        q: 0x10_0000_0000_0000 + digits,
+        j: field - 1,
+    };
+    signed(sign, size.pack())
 }

@@ -9,21 +9,36 @@ use super::constants::infinity;
 use super::convert::{narrow, widen};
 use std::simd::prelude::*;
 
-// One term more of the series, from the innermost out.
+// One term more of the series at two values, whose operations go together.
 #[inline(always)]
-fn term(y: f64, k: f64, p: f64) -> f64
-    ensures { result ≡ one64 ⊞ y ⧄ k ⊠ p }
+fn term(y: f64x2, k: f64, p: f64x2) -> f64x2
+    ensures { result ≡ zip2 (λ (y p : Float). one64 ⊞ y ⧄ k ⊠ p) y p }
 {
-    1.0 + y / k * p
+    f64x2::splat(1.0) + y / f64x2::splat(k) * p
 }
 
-// 1 + y + y^2 / 2 + .. to the tenth power. The terms are written out, since the compiler then
-// multiplies in place of dividing by 8, 4, 2 and 1, which gives the same bits.
-#[tactic(auto, using(crate::proofs::Pairs::terms_written))]
-fn exp_terms(y: f64) -> f64
-    ensures { result ≡ Exponential.terms 10 y one64 }
+// p to the 256th power, by eight squarings.
+#[tactic(auto, using(crate::proofs::Pairs::squares))]
+fn power_256(p: f64x2) -> f64x2
+    ensures { result ≡ map (Exponential.squared 8) p }
 {
-    let p = 1.0f64;
+    let mut q = p;
+    for _ in 0..8u32 {
+        q = q * q;
+    }
+    q
+}
+
+// E's series at two values, which is not yet rounded: 1 + y + y^2 / 2 + .. to the tenth power, from
+// the innermost term out, to the 256th power. The terms are written out, since the compiler then
+// multiplies in place of dividing by 8, 4, 2 and 1, which gives the same bits. In a loop over k it
+// divides by all ten, and `exp` takes a sixth longer.
+#[tactic(auto, using(crate::proofs::Pairs::terms_written), unfolding(crate::specs::Exponential::series))]
+fn two_series(a: f32, b: f32) -> [f64; 2]
+    ensures { result ≡ Exponential.series a ∷ Exponential.series b ∷ [] }
+{
+    let y = f64x2::from_array([widen(a), widen(b)]) / f64x2::splat(256.0);
+    let p = f64x2::splat(1.0);
     let p = term(y, 10.0, p);
     let p = term(y, 9.0, p);
     let p = term(y, 8.0, p);
@@ -34,29 +49,15 @@ fn exp_terms(y: f64) -> f64
     let p = term(y, 3.0, p);
     let p = term(y, 2.0, p);
     let p = term(y, 1.0, p);
-    p
+    power_256(p).to_array()
 }
 
-// p to the 256th power, by eight squarings.
-#[tactic(auto, unfolding(crate::specs::Exponential::squared))]
-fn power_256(p: f64) -> f64
-    ensures { result ≡ Exponential.squared 8 p }
-{
-    let mut q = p;
-    let mut i = 8u32;
-    while 0 < i {
-        q = q * q;
-        i -= 1;
-    }
-    q
-}
-
-// E's series at x, which is not yet rounded.
-#[tactic(auto, unfolding(crate::specs::Exponential::series))]
+// The series at x, as the first of two.
 fn series(x: f32) -> f64
     ensures { result ≡ Exponential.series x }
 {
-    power_256(exp_terms(widen(x) / 256.0))
+    let [p, _] = two_series(x, x);
+    p
 }
 
 // e to the power x, by the series at x.
@@ -65,7 +66,7 @@ fn exp_of(x: f32, p: f64) -> f32
     requires { p ≡ Exponential.series x }
     ensures { result ≡ Exponential.exp x }
 {
-    if x != x {
+    if x.is_nan() {
         return x;
     }
     if x < -104.0 {
@@ -84,56 +85,21 @@ pub fn exp(x: f32) -> f32
     exp_of(x, series(x))
 }
 
-// `term` at two values.
-#[inline(always)]
-fn two_terms(y: f64x2, k: f64, p: f64x2) -> f64x2
-    ensures { result ≡ zip2 (λ (y p : Float). one64 ⊞ y ⧄ k ⊠ p) y p }
-{
-    f64x2::splat(1.0) + y / f64x2::splat(k) * p
-}
-
-// E's series at two values, whose operations go together.
-#[tactic(auto, using(crate::proofs::Pairs::terms_written), unfolding(crate::specs::Exponential::series))]
-fn two_series(a: f32, b: f32) -> [f64; 2]
-    ensures { result ≡ Exponential.series a ∷ Exponential.series b ∷ [] }
-{
-    let y = f64x2::from_array([widen(a), widen(b)]) / f64x2::splat(256.0);
-    let p = f64x2::splat(1.0);
-    let p = two_terms(y, 10.0, p);
-    let p = two_terms(y, 9.0, p);
-    let p = two_terms(y, 8.0, p);
-    let p = two_terms(y, 7.0, p);
-    let p = two_terms(y, 6.0, p);
-    let p = two_terms(y, 5.0, p);
-    let p = two_terms(y, 4.0, p);
-    let p = two_terms(y, 3.0, p);
-    let p = two_terms(y, 2.0, p);
-    let mut p = two_terms(y, 1.0, p);
-    let mut i = 8u32;
-    while 0 < i {
-        p = p * p;
-        i -= 1;
-    }
-    p.to_array()
-}
-
-// The series at each element, two at a time.
+// The series at each element, two at a time. They are written by index, since a proof knows no
+// element of what `chunks_mut` lends.
 #[tactic(auto, using(crate::proofs::Mapped::filling))]
 fn series_each(xs: &[f32], room: &mut [f64])
     requires { length room.old ≡ length xs.now }
     ensures { room.new ≡ map Exponential.series xs.now }
 {
     let n = xs.len();
-    let mut i = 0usize;
-    while n - i >= 2 {
-        let two = two_series(xs[i], xs[i + 1]);
-        room[i] = two[0];
-        room[i + 1] = two[1];
-        i += 2;
+    for i in 0..n / 2 {
+        let [p, q] = two_series(xs[2 * i], xs[2 * i + 1]);
+        room[2 * i] = p;
+        room[2 * i + 1] = q;
     }
-    while i < n {
-        room[i] = series(xs[i]);
-        i += 1;
+    if n % 2 == 1 {
+        room[n - 1] = series(xs[n - 1]);
     }
 }
 
@@ -149,7 +115,7 @@ fn exp_of_each(xs: &mut [f32], room: &[f64])
 }
 
 // e to the power of each element, in its place. It takes half the time of as many calls of `exp`;
-// `room` is as long a list, where the series stand.
+// `room` is as long a list of the caller's, where the series stand, since nothing here takes memory.
 pub fn exp_each(xs: &mut [f32], room: &mut [f64])
     requires { length room.old ≡ length xs.old }
     ensures { (xs.new ≡ map Exponential.exp xs.old) × (room.new ≡ map Exponential.series xs.old) }

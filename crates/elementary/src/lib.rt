@@ -7,7 +7,9 @@ pub mod bits;
 pub mod constants;
 pub mod convert;
 pub mod exponential;
+pub mod lists;
 pub mod logarithm;
+mod normal;
 pub mod root;
 pub mod sign;
 

@@ -3,101 +3,72 @@
 ghost use Rattle.std.specs.Prelude.{◌≡◌, ℕ, ◌+◌, ◌^◌, ◌<◌, ◌≤◌, map};
 ghost use Rattle.elementary.specs.Root as Root;
 ghost use Rattle.elementary.specs.Root.{nearest_root, root_of, Root};
-ghost use Rattle.elementary.specs.Units.{units_of, Normalised};
+ghost use Rattle.elementary.specs.Units.{Normalised};
 
-use super::constants::nan;
+use super::bits::double_to_bits;
+use super::constants::{infinity, nan};
+use super::lists::map_in_place;
+use super::normal::Normal;
 
-// The whole number nearest to the root of n, a binary digit at a time.
-fn by_digits(n: u64) -> u64
-    requires { n < 2 ^ 48 }
-    ensures { result ≡ nearest_root n }
-{
-    let mut g = 0u64;
-    let mut d = 24u64;
-    while 0 < d {
-        d -= 1;
-        let h = g + (1u64 << d);
-        let odd = 2 * h - 1;
-        if odd * odd < 4 * n {
-            g = h;
-        }
-    }
-    g
+// A number of which the root is taken: it has 48 digits at most, and its root 24.
+#[derive(Clone, Copy)]
+struct Radicand {
+    n: u64,
+    ghost some: { 0 < n },
+    ghost few: { n + 2 ^ 24 ≤ 2 ^ 48 },
 }
 
-// As a rule the whole number nearest to the root of n, and nothing rests on it. The sum with 2 ^ 52
-// has that number for its last 52 digits.
-#[tactic(auto, using(crate::proofs::Values::testing))]
-fn guess(n: u64) -> u64
-    requires { n < 2 ^ 48 }
-{
-    let w = ((n as i64) as f64).sqrt() + 4503599627370496.0;
-    if w != w {
-        return 0;
-    }
-    f64::to_bits(w) % 0x10_0000_0000_0000
-}
-
-// The whole number nearest to the root of n: the guess g where 4 * n lies between the squares of
-// 2 * g - 1 and 2 * g + 1, which differ by 8 * g, and else by the digits.
-fn nearest_root(n: u64) -> u64
-    requires some { 0 < n }
-    requires few { n + 2 ^ 24 ≤ 2 ^ 48 }
-    ensures { result ≡ nearest_root n }
-{
-    let g = guess(n);
-    if g < 0x200_0000 {
-        let above = (2 * g + 1) * (2 * g + 1);
-        if 4 * n < above {
-            if above < 4 * n + 8 * g {
-                return g;
+impl Radicand {
+    // The whole number nearest to the root of n, a binary digit at a time.
+    fn by_digits(self) -> u64
+        ensures { result ≡ nearest_root self.n }
+    {
+        let mut g = 0u64;
+        for d in (0..24u64).rev() {
+            let h = g + (1u64 << d);
+            let odd = 2 * h - 1;
+            if odd * odd < 4 * self.n {
+                g = h;
             }
         }
+        g
     }
-    by_digits(n)
-}
 
-// A finite value above zero: a significand q of 24 digits, and the number of digits that the value
-// has in units of 2 ^ -149.
-#[derive(Drop)]
-struct Normal {
-    q: u32,
-    size: u32,
-}
-
-// The value that an exponent's field and the digits below it stand for. The significand of a
-// subnormal one is scaled by its leading zeros.
-fn normalise(field: u32, digits: u32) -> Normal
-    requires finite { field < 255 }
-    requires low { digits < 2 ^ 23 }
-    requires some { 0 < field + digits }
-    ensures { Normalised (units_of field digits) result.q result.size }
-{
-    if field == 0 {
-        // a number of 24 digits leaves 8 zeros of a u32
-        let zeros = u32::leading_zeros(digits) - 8;
-        return Normal {
-            q: digits << zeros,
-            size: 24 - zeros,
-        };
+    // As a rule the whole number nearest to the root of n, and nothing rests on it. The sum with
+    // 2 ^ 52 has that number for its last 52 digits.
+    fn guess(self) -> u64 {
+        double_to_bits(((self.n as i64) as f64).sqrt() + 4503599627370496.0) % 0x10_0000_0000_0000
     }
-    Normal {
-        q: 0x80_0000 + digits,
-        size: field + 23,
+
+    // The whole number nearest to the root of n: the guess g where 4 * n lies between the squares
+    // of 2 * g - 1 and 2 * g + 1, which differ by 8 * g, and else by the digits.
+    #[tactic(auto, using(crate::proofs::Squares::certified_is))]
+    fn root(self) -> u64
+        ensures { result ≡ nearest_root self.n }
+    {
+        let n = self.n;
+        let g = self.guess();
+        if g < 0x200_0000 {
+            let above = (2 * g + 1) * (2 * g + 1);
+            if 4 * n < above {
+                if above < 4 * n + 8 * g {
+                    return g;
+                }
+            }
+        }
+        self.by_digits()
     }
 }
 
-// The root of a value, by its significand and size: n, which is q with 23 or 24 zeros, has a root
-// of 24 digits.
-fn root_of(q: u32, size: u32) -> f32
-    requires low { 2 ^ 23 ≤ q }
-    requires high { q < 2 ^ 24 }
-    requires most { size ≤ 277 }
-    ensures { (a : ℕ) → Normalised a q size → result ≡ root_of a }
-{
-    let n = (q as u64) << (23 + size % 2);
-    let r = nearest_root(n);
-    f32::from_bits((51 + size / 2) * 0x80_0000 + (r as u32))
+impl Normal {
+    // The root of the value: n, which is q with 23 or 24 zeros, has a root of 24 digits.
+    fn root(self) -> f32
+        ensures { (a : ℕ) → Normalised a self.q self.size → result ≡ root_of a }
+    {
+        let n = (self.q as u64) << (23 + self.size % 2);
+        let r = Radicand { n }.root();
+        f32::from_bits((51 + self.size / 2) * 0x80_0000 + (r as u32))
+    }
 }
 
 // The square root of x: NaN or below zero gives NaN; a zero of either sign and +infinity give
@@ -105,7 +76,7 @@ fn root_of(q: u32, size: u32) -> f32
 pub fn sqrt(x: f32) -> f32
     ensures { Root x result }
 {
-    if x != x {
+    if x.is_nan() {
         return x;
     }
     if x == 0.0 {
@@ -114,17 +85,14 @@ pub fn sqrt(x: f32) -> f32
     if x < 0.0 {
         return nan();
     }
-    let bits = f32::to_bits(x);
-    let field = bits % 0x8000_0000 / 0x80_0000;
-    let digits = bits % 0x80_0000;
-    if field == 0xff {
+    if x == infinity() {
         return x;
     }
-    let normal = normalise(field, digits);
-    root_of(normal.q, normal.size)
+    Normal::new(x).root()
 }
 
 // The same root by the machine's instruction, which is the faster of the two.
+#[tactic(auto, using(crate::proofs::Instruction::instruction))]
 fn instruction(x: f32) -> f32
     ensures { result ≡ Root.sqrt x }
 {
@@ -132,12 +100,8 @@ fn instruction(x: f32) -> f32
 }
 
 // The square root of each element, in its place.
-#[tactic(auto, using(crate::proofs::Mapped::mapping))]
 pub fn sqrt_each(xs: &mut [f32])
     ensures { xs.new ≡ map Root.sqrt xs.old }
 {
-    let n = xs.len();
-    for i in 0..n {
-        xs[i] = instruction(xs[i]);
-    }
+    map_in_place(xs, instruction)
 }

@@ -3,16 +3,11 @@ ghost use Rattle.std.specs.Prelude.{◌≡◌};
 ghost use Rattle.elementary.specs.Sign as Sign;
 
 // x with its sign cleared: -0 gives +0, and a NaN a NaN.
+#[tactic(auto, using(crate::proofs::Signs::abs_is))]
 pub fn abs(x: f32) -> f32
     ensures { result ≡ Sign.abs x }
 {
-    if x < 0.0 {
-        -x
-    } else if x == 0.0 {
-        0.0
-    } else {
-        x
-    }
+    x.abs()
 }
 
 // v where it is above zero, and +0 otherwise, at a NaN too.

@@ -6,7 +6,7 @@ use lib.Ieee.{Float, binary32, binary64, fits, of_bits}
 use lib.Ieee.Bits.{to_bits-lt}
 use Rattle.elementary.specs.Convert as Convert
 use Rattle.elementary.proofs.Patterns.{infinite}
-use Rattle.elementary.proofs.Values.{is_nan_lem, equals_itself, pattern, negative, at_top, at_zero, between}
+use Rattle.elementary.proofs.Values.{told_nan, told_number, pattern, negative, at_top, at_zero, between}
 use Rattle.elementary.proofs.Rounded.{rounded_at, rounded_inf, rounded_nan}
 use Rattle.elementary.proofs.convert.narrow.Goals as goal
 
@@ -30,11 +30,11 @@ module _ (x : Float) (held : T (fits binary64 x)) where
   stamp : (r : ℕ) → of_bits binary32 (pattern binary64 x held / 2 ^ 63 * 2 ^ 31 + r) ≡ of_bits binary32 (cond minus (2 ^ 31) 0 + r)
   stamp r = ap (λ (n : ℕ). of_bits binary32 (n + r)) (sym (sign_is (pattern binary64 x held) (to_bits-lt binary64 x held)))
 
-pub returns-then-x : goal.returns-then-x
-returns-then-x c = c.nan.ensures ∙ sym (rounded_nan binary32) ∙ ap Convert.narrow (sym (is_nan_lem _ c.if-x.true))
+pub returns-then-is_nan : goal.returns-then-is_nan
+returns-then-is_nan c = c.nan.ensures ∙ sym (rounded_nan binary32) ∙ ap Convert.narrow (sym (told_nan _ c.is_nan.ensures.value c.if-is_nan.true))
 
 pub float_to_bits-bits : goal.float_to_bits-bits
-float_to_bits-bits c = equals_itself _ c.if-x.false
+float_to_bits-bits c = told_number _ c.is_nan.ensures.value c.if-is_nan.false
 
 pub signed-requires-clause-bit : goal.signed-requires-clause-bit
 signed-requires-clause-bit c = bit c.args.x (passes _ c.well_formed.0.1)
@@ -43,7 +43,7 @@ pub returns-then-field-eq2047 : goal.returns-then-field-eq2047
 returns-then-field-eq2047 c =
     let x = c.args.x in
     let held = passes _ c.well_formed.0.1 in
-    c.signed.ensures ∙ stamp x held _ ∙ infinite (minus x held) ∙ sym (rounded_inf binary32 (minus x held)) ∙ ap Convert.narrow (sym (at_top binary64 x held c.if-field-eq2047.true (equals_itself _ c.if-x.false)))
+    c.signed.ensures ∙ stamp x held _ ∙ infinite (minus x held) ∙ sym (rounded_inf binary32 (minus x held)) ∙ ap Convert.narrow (sym (at_top binary64 x held c.if-field-eq2047.true (told_number _ c.is_nan.ensures.value c.if-is_nan.false)))
 
 pub signed-requires-then-field-eq0-clause-bit : goal.signed-requires-then-field-eq0-clause-bit
 signed-requires-then-field-eq0-clause-bit c = bit c.args.x (passes _ c.well_formed.0.1)

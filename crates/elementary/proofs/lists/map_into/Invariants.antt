@@ -1,0 +1,7 @@
+-- the elements so far are results of f
+use Rattle.std.proofs.Common.{◌≡◌, ℕ, ◌<◌, ◌≤◌, length, get_or}
+use lib.Ieee.{nan}
+use Rattle.elementary.proofs.lists.map_into.Given as goal
+
+abbrev pub invariant-loop-i : goal.invariant-loop-i
+invariant-loop-i g l = (l.i ≤ l.n) × (length l.out ≡ l.n) × ((k : ℕ) → k < l.i → goal.F-post g l.f (get_or l.xs k nan) (get_or l.out k nan))
