@@ -8,7 +8,6 @@ use native.Mathlib.Nat.{le_trans, le_of_eq, le_refl, mul_comm, mul-le-mul_right}
 use native.Mathlib.Omega.{arith}
 use borrow.Author.Tests.{ltb-true}
 use lib.Dec.{T, ltb}
-use lib.IntN.{ℤ}
 use lib.ListN.{get_or, length}
 use lib.Ieee.{Float, nan, neg, binary32, fits}
 use Rattle.elementary.specs.Notation.{◌⊕◌, ◌⊖◌, ◌⊗◌, ◌⊘◌, lit}
@@ -24,7 +23,8 @@ use Rattle.interpolation.specs.Interval.{node_interval}
 use Rattle.interpolation.specs.Weights.{first_part, last_part, four_at, within, catmull_rom_weights}
 use Rattle.interpolation.specs.Laws.{Holds, Between, Bounded}
 use Rattle.interpolation.specs.declared.weights.Four.{Four}
-use Rattle.interpolation.specs.declared.weights.Weights.TheVariants.{At}
+use Rattle.interpolation.specs.declared.weights.Weights.{Weights}
+use Rattle.std.specs.Prelude.{Some}
 use Rattle.interpolation.proofs.Reach.{answer}
 use Rattle.interpolation.proofs.Accepted.{Accepted, accepted, Holding, T_finite, rising, node_gap, value_number, interval_holds}
 use Rattle.interpolation.proofs.Hermite.{before, after, fall_in, rise_in, before_in, after_in}
@@ -174,9 +174,9 @@ module _ (nodes : List Float) (H : Holds nodes) (two : 2 ≤ length nodes) (ok :
   pub weights_in : within nodes x ≡ true → FourIn (four_at nodes x (node_interval nodes x))
   weights_in inside = let A = accepted nodes H two ok in interval_in A (value_number A x fx inside) (interval_holds A x fx inside)
 
-  pub weights_bounded : (o : ℤ) (f : Four) → catmull_rom_weights nodes x ≡ At o f → Bounded f
-  weights_bounded o f e =
-      let a = answer nodes x o f e in
+  pub weights_bounded : (v : Weights) → catmull_rom_weights nodes x ≡ Some v → Bounded v.four
+  weights_bounded v e =
+      let a = answer nodes x v e in
       let w = weights_in a.is_within in
       subst Bounded (sym a.four)
       (record {

@@ -5,12 +5,14 @@ use mathlib.Core.Bool.{Bool, true, false, cond, false≢true, ◌&&◌}
 use mathlib.Core.Logic.{inl, inr}
 use mathlib.Core.List.{List}
 use Prim.Native.Nat.{ℕ, zero, suc, ◌+◌, ◌-◌, ◌≤◌, ◌<◌, min}
-use native.Mathlib.Nat.{add-zero}
+use native.Mathlib.Nat.{add-zero, zero-add}
 use native.Mathlib.Numerals.{add-one}
 use native.Mathlib.Omega.{arith}
 use lib.Dec.{T, eqb}
 use lib.ListN.{length}
 use lib.Ieee.{Float, nan, inf, fin, binary32, fits, le}
+use Rattle.std.specs.List.{count_by, range_with_len}
+use Rattle.std.proofs.lemmas.List.Sums.{sum_by-cons}
 use Rattle.elementary.proofs.Patterns.{le_or_lt}
 use Rattle.units.specs.Units.{Number}
 use Rattle.units.proofs.Order.{AtMost, le_true, at_most_le}
@@ -30,6 +32,24 @@ count p (suc n) = count p n + cond (p n) 1 0
 pub count_more : (p : ℕ → Bool) (n : ℕ) → count p (n + 1) ≡ count p n + cond (p n) 1 0
 unfolding count
 count_more p n = rw add-one
+
+-- so many more pass below i + n than below i
+count_more_by : (p : ℕ → Bool) (n i : ℕ) → count p (i + n) ≡ count p i + count_by p (range_with_len i n)
+count_more_by p zero i = rw (add-zero i) (omega arith)
+count_more_by p (suc n) i =
+    let e : i + suc n ≡ i + 1 + n = omega arith in
+    let cons = sum_by-cons (λ x. cond (p x) 1 0) i (range_with_len (i + 1) n) in
+    rw (e, count_more_by p n (i + 1), count_more p i, cons) (omega arith)
+
+pub count_eight : (p : ℕ → Bool) (i : ℕ) → count p (i + 8) ≡ count p i + count_by p (range_with_len i 8)
+count_eight p i = count_more_by p 8 i
+
+-- so many pass of the first n
+pub count_all : (p : ℕ → Bool) (n : ℕ) → count p n ≡ count_by p (range_with_len 0 n)
+unfolding count
+count_all p n =
+    let all = count_more_by p n 0 in
+    rw (zero-add n, zero-add (count_by p (range_with_len 0 n))) at all
 
 -- all pass exactly if so many do
 count_le : (p : ℕ → Bool) (n : ℕ) → count p n ≤ n
@@ -107,17 +127,18 @@ at_most_falls nodes A x fx k l h =
     let step = A.step k l in
     le_below _ _ x (A.number k (omega arith)) (A.number (k + 1) l) fx (omega arith) h
 
-pub node_counted : (nodes : List Float) → Holds nodes → 2 ≤ length nodes → nodes_ok nodes ≡ true → (x : Float) → T (fits binary32 x) → node_interval nodes x ≡ count (at_most nodes x) (length nodes - 1) - 1
+pub node_counted : (nodes : List Float) → Holds nodes → 2 ≤ length nodes → nodes_ok nodes ≡ true → (x : Float) → T (fits binary32 x)
+    → node_interval nodes x ≡ count_by (at_most nodes x) (range_with_len 0 (length nodes - 1)) - 1
 unfolding node_interval
-node_counted nodes H two ok x fx = interval_counted (at_most nodes x) (length nodes) (at_most_falls nodes (accepted nodes H two ok) x fx)
+node_counted nodes H two ok x fx = rw (← count_all (at_most nodes x) (length nodes - 1)) (interval_counted (at_most nodes x) (length nodes) (at_most_falls nodes (accepted nodes H two ok) x fx))
 
 -- what the check tries at the goals of `interval`
 pub ruleset counting = (node_counted)
 
 -- the nodes increase exactly if each but the last is below the next
-pub increasing_counted : (nodes : List Float) (c : ℕ) → c ≡ count (rises nodes) (length nodes - 1) → eqb c (length nodes - 1) ≡ increasing nodes
+pub increasing_counted : (nodes : List Float) (c : ℕ) → c ≡ count_by (rises nodes) (range_with_len 0 (length nodes - 1)) → eqb c (length nodes - 1) ≡ increasing nodes
 unfolding increasing
-increasing_counted nodes c e = rw e (all_counted (rises nodes) (length nodes - 1))
+increasing_counted nodes c e = rw (e, ← count_all (rises nodes) (length nodes - 1)) (all_counted (rises nodes) (length nodes - 1))
 
 -- the same of `nodes`
 pub ruleset rising = (increasing_counted)

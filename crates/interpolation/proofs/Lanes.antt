@@ -2,7 +2,7 @@
 use mathlib.Core.Path.{◌≡◌, sym, ◌∙◌, ap}
 use mathlib.Core.Bool.{Bool, cond}
 use mathlib.Core.List.{List, map}
-use Prim.Native.Nat.{ℕ, zero, suc, ◌+◌, ◌-◌, ◌≤◌, ◌^◌, ◌%◌}
+use Prim.Native.Nat.{ℕ, ◌+◌, ◌-◌, ◌≤◌, ◌^◌, ◌%◌}
 use native.Mathlib.Omega.{arith}
 use lib.ListN.{length, get_or, replicate}
 use lib.Lanes.{chunk, zip2, mask_l, top}
@@ -12,11 +12,9 @@ use mir.Val.{hbits, bits}
 use Rattle.std.specs.List.{count_by, range_with_len}
 use Rattle.std.specs.Int.RustNames.{count_ones}
 use Rattle.std.proofs.lemmas.Simd.{bitmask_splat, length-chunk, pick_l-range_with_len, ones-mask_l, map-map, tops_compared, zip2_of_maps, mask_l-mod}
-use Rattle.std.proofs.lemmas.List.Sums.{count_by-le-length, sum_by-cons}
-use native.Mathlib.Nat.{add-zero}
+use Rattle.std.proofs.lemmas.List.Sums.{count_by-le-length}
 use Rattle.interpolation.specs.Interval.{at_most}
 use Rattle.interpolation.specs.Nodes.{rises}
-use Rattle.interpolation.proofs.Counting.{count, count_more}
 
 -- the eight nodes from i on
 eight : (nodes : List Float) (i : ℕ) → i + 8 ≤ length nodes → chunk i 8 nodes ≡ map (λ k. get_or nodes k nan) (range_with_len i 8)
@@ -44,17 +42,3 @@ counted_rises nodes i l =
 -- at most all eight pass
 pub few : (p : ℕ → Bool) (i : ℕ) → count_by p (range_with_len i 8) ≤ 8
 few p i = count_by-le-length p (range_with_len i 8)
-
--- so many more pass below i + n than below i
-count_more_by : (p : ℕ → Bool) (n i : ℕ) → count p (i + n) ≡ count p i + count_by p (range_with_len i n)
-count_more_by p zero i = rw (add-zero i) (omega arith)
-count_more_by p (suc n) i =
-    let e : i + suc n ≡ i + 1 + n = omega arith in
-    let cons = sum_by-cons (λ x. cond (p x) 1 0) i (range_with_len (i + 1) n) in
-    rw (e, count_more_by p n (i + 1), count_more p i, cons) (omega arith)
-
-pub count_eight : (p : ℕ → Bool) (i : ℕ) → count p (i + 8) ≡ count p i + count_by p (range_with_len i 8)
-count_eight p i = count_more_by p 8 i
-
--- what the check tries where eight places are counted
-pub ruleset eights = (count_eight)

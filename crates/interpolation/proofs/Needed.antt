@@ -7,17 +7,16 @@ use Prim.Native.Nat.{ℕ, zero, suc, ◌+◌, ◌-◌, ◌/◌, ◌≤◌, ◌<�
 use native.Mathlib.Omega.{arith}
 use borrow.Author.Tests.{ltb-true}
 use lib.Dec.{ltb}
-use lib.IntN.{ℤ}
+use Rattle.std.specs.Prelude.{Some}
 use lib.ListN.{get_or, length}
 use lib.Ieee.{Float, nan}
 use Rattle.elementary.specs.Notation.{◌⊖◌, ◌⊗◌, ◌⊘◌}
 use Rattle.interpolation.specs.Interval.{bisect, find_interval}
 use Rattle.interpolation.specs.Slope.{width, slope_before, slope_after}
 use Rattle.interpolation.specs.Blend.{interpolate, blend_at_most, blend_interval}
-use Rattle.interpolation.specs.Sample.{segment_at, draw_from}
+use Rattle.interpolation.specs.Sample.{segment_at, draw, draw_from}
 use Rattle.interpolation.specs.Laws.{Agree}
-use Rattle.interpolation.specs.declared.weights.Four.{Four}
-use Rattle.interpolation.specs.declared.weights.Weights.TheVariants.{At}
+use Rattle.interpolation.specs.declared.weights.Weights.{Weights}
 use Rattle.interpolation.proofs.Rows.{interpolate_same, blend_bound}
 
 -- ---- the search asks only below size
@@ -54,35 +53,35 @@ after_same x f g i h l = go (ltb (i + 2) (length x)) refl
 
 -- ---- the draw
 
-module _ (nodes2 values values' cdf cdf' : List Float) (offset : ℤ) (f : Four) (two : 2 ≤ length nodes2)
-    (A : Agree values values' (length nodes2) offset f) (B : Agree cdf cdf' (length nodes2) offset f) where
+module _ (nodes2 values values' cdf cdf' : List Float) (w : Weights) (two : 2 ≤ length nodes2)
+    (A : Agree values values' (length nodes2) w.offset w.four) (B : Agree cdf cdf' (length nodes2) w.offset w.four) where
   abbrev m : ℕ
   m = length nodes2
 
-  same_cdf : (k : ℕ) → k < length nodes2 → interpolate cdf (length nodes2) offset f k ≡ interpolate cdf' (length nodes2) offset f k
-  same_cdf k l = interpolate_same cdf cdf' m offset f k B l
+  same_cdf : (k : ℕ) → k < length nodes2 → interpolate cdf (length nodes2) w.offset w.four k ≡ interpolate cdf' (length nodes2) w.offset w.four k
+  same_cdf k l = interpolate_same cdf cdf' m w.offset w.four k B l
 
-  same_values : (k : ℕ) → k < length nodes2 → interpolate values (length nodes2) offset f k ≡ interpolate values' (length nodes2) offset f k
-  same_values k l = interpolate_same values values' m offset f k A l
+  same_values : (k : ℕ) → k < length nodes2 → interpolate values (length nodes2) w.offset w.four k ≡ interpolate values' (length nodes2) w.offset w.four k
+  same_values k l = interpolate_same values values' m w.offset w.four k A l
 
-  interval_same : (u : Float) → blend_interval cdf (length nodes2) offset f u ≡ blend_interval cdf' (length nodes2) offset f u
+  interval_same : (u : Float) → blend_interval cdf (length nodes2) w.offset w.four u ≡ blend_interval cdf' (length nodes2) w.offset w.four u
   unfolding blend_interval blend_at_most
-  interval_same u = find_same (blend_at_most cdf m offset f u) (blend_at_most cdf' m offset f u) m (λ k l. rw (same_cdf k l))
+  interval_same u = find_same (blend_at_most cdf m w.offset w.four u) (blend_at_most cdf' m w.offset w.four u) m (λ k l. rw (same_cdf k l))
 
-  segment_same : (u : Float) (i : ℕ) → i + 1 < length nodes2 → segment_at nodes2 values cdf offset f u i ≡ segment_at nodes2 values' cdf' offset f u i
+  segment_same : (u : Float) (i : ℕ) → i + 1 < length nodes2 → segment_at nodes2 values cdf w.offset w.four u i ≡ segment_at nodes2 values' cdf' w.offset w.four u i
   unfolding segment_at
   segment_same u i l =
       rw (
         same_values i (omega arith),
         same_values (i + 1) l,
-        before_same nodes2 (interpolate values m offset f) (interpolate values' m offset f) i same_values l,
-        after_same nodes2 (interpolate values m offset f) (interpolate values' m offset f) i same_values l,
+        before_same nodes2 (interpolate values m w.offset w.four) (interpolate values' m w.offset w.four) i same_values l,
+        after_same nodes2 (interpolate values m w.offset w.four) (interpolate values' m w.offset w.four) i same_values l,
         same_cdf i (omega arith),
       )
 
-  pub draw_same : (u : Float) (allowance : ℕ) → draw_from nodes2 values cdf (At offset f) u allowance ≡ draw_from nodes2 values' cdf' (At offset f) u allowance
-  unfolding draw_from
+  pub draw_same : (u : Float) (allowance : ℕ) → draw_from nodes2 values cdf (Some w) u allowance ≡ draw_from nodes2 values' cdf' (Some w) u allowance
+  unfolding draw_from draw
   draw_same u allowance =
-      let target = u ⊗ interpolate cdf' m offset f (m - 1) in
-      let i = blend_interval cdf' m offset f target in
-      rw (same_cdf (m - 1) (omega arith), interval_same target, segment_same target i (omega (arith, blend_bound cdf' m offset f target)))
+      let target = u ⊗ interpolate cdf' m w.offset w.four (m - 1) in
+      let i = blend_interval cdf' m w.offset w.four target in
+      rw (same_cdf (m - 1) (omega arith), interval_same target, segment_same target i (omega (arith, blend_bound cdf' m w.offset w.four target)))

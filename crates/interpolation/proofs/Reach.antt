@@ -8,7 +8,8 @@ use Prim.Native.Nat.{ℕ, zero, suc, ◌+◌, ◌≤◌}
 use native.Mathlib.Omega.{arith}
 use borrow.Author.Tests.{ltb-true}
 use lib.Dec.{ltb}
-use lib.IntN.{ℤ, pos, negsuc}
+use lib.IntN.{pos, negsuc}
+use Rattle.std.specs.Prelude.{Some, None}
 use lib.ListN.{get_or, length}
 use lib.Ieee.{Float, nan, inf, fin, eq, lt, le, of_bits}
 use Rattle.elementary.specs.Notation.{lit}
@@ -16,7 +17,7 @@ use Rattle.interpolation.specs.Interval.{node_interval}
 use Rattle.interpolation.specs.Weights.{four_at, offset_of, within, catmull_rom_weights}
 use Rattle.interpolation.specs.Laws.{Reach}
 use Rattle.interpolation.specs.declared.weights.Four.{Four}
-use Rattle.interpolation.specs.declared.weights.Weights.TheVariants.{At, Outside}
+use Rattle.interpolation.specs.declared.weights.Weights.{Weights}
 use Rattle.interpolation.proofs.Bisection.{node_bound}
 
 -- +0 equals +0
@@ -40,43 +41,44 @@ reach nodes x i h =
     }
 
 -- what an answer of `catmull_rom_weights` is
-pub record Answer (nodes : List Float) (x : Float) (o : ℤ) (f : Four) : Type 0 where
+pub record Answer (nodes : List Float) (x : Float) (w : Weights) : Type 0 where
   pub is_within : within nodes x ≡ true
-  pub offset : o ≡ offset_of (node_interval nodes x)
-  pub four : f ≡ four_at nodes x (node_interval nodes x)
+  pub offset : w.offset ≡ offset_of (node_interval nodes x)
+  pub four : w.four ≡ four_at nodes x (node_interval nodes x)
 
-pub answer : (nodes : List Float) (x : Float) (o : ℤ) (f : Four) → catmull_rom_weights nodes x ≡ At o f → Answer nodes x o f
+pub answer : (nodes : List Float) (x : Float) (w : Weights) → catmull_rom_weights nodes x ≡ Some w → Answer nodes x w
 unfolding catmull_rom_weights
-answer nodes x o f e = go (within nodes x) refl e
+answer nodes x w e = go (within nodes x) refl e
   where
     i : ℕ
     i = node_interval nodes x
 
-    go : (b : Bool) → within nodes x ≡ b → cond b (At (offset_of i) (four_at nodes x i)) Outside ≡ At o f → Answer nodes x o f
-    go true w h = record { is_within = w; offset = cc h; four = cc h }
-    go false w h = let clash : true ≡ false = cc h in absurd (true≢false clash)
+    go : (b : Bool) → within nodes x ≡ b → cond b (Some (record { offset = offset_of i; four = four_at nodes x i })) None ≡ Some w → Answer nodes x w
+    go true g h = record { is_within = g; offset = cc h; four = cc h }
+    go false g h = let clash : true ≡ false = cc h in absurd (true≢false clash)
 
 -- the same of an answer of `catmull_rom_weights`
-pub reach_of_weights : (nodes : List Float) (x : Float) (o : ℤ) (f : Four) → catmull_rom_weights nodes x ≡ At o f → 2 ≤ length nodes
-    → (o ≡ offset_of (node_interval nodes x)) × Reach f (node_interval nodes x) (length nodes)
-reach_of_weights nodes x o f e two =
-    let a = answer nodes x o f e in
+pub reach_of_weights : (nodes : List Float) (x : Float) (w : Weights) → catmull_rom_weights nodes x ≡ Some w → 2 ≤ length nodes
+    → (w.offset ≡ offset_of (node_interval nodes x)) × Reach w.four (node_interval nodes x) (length nodes)
+reach_of_weights nodes x w e two =
+    let a = answer nodes x w e in
     let i = node_interval nodes x in
     (a.offset, subst (λ (g : Four). Reach g i (length nodes)) (sym a.four) (reach nodes x i (omega (arith, node_bound nodes x))))
 
 -- ---- the range of the offset, and what lies outside
 
 -- from -1 to n - 3
-pub offset_range : (nodes : List Float) (x : Float) (o : ℤ) (f : Four) → catmull_rom_weights nodes x ≡ At o f → 2 ≤ length nodes → (o ≡ negsuc 0) ⊎ ((k : ℕ) × (o ≡ pos k) × (k + 3 ≤ length nodes))
+pub offset_range : (nodes : List Float) (x : Float) (w : Weights) → catmull_rom_weights nodes x ≡ Some w → 2 ≤ length nodes
+    → (w.offset ≡ negsuc 0) ⊎ ((k : ℕ) × (w.offset ≡ pos k) × (k + 3 ≤ length nodes))
 unfolding offset_of
-offset_range nodes x o f e two = go (node_interval nodes x) (answer nodes x o f e).offset (omega (arith, node_bound nodes x))
+offset_range nodes x w e two = go (node_interval nodes x) (answer nodes x w e).offset (omega (arith, node_bound nodes x))
   where
-    go : (i : ℕ) → o ≡ offset_of i → i + 2 ≤ length nodes → (o ≡ negsuc 0) ⊎ ((k : ℕ) × (o ≡ pos k) × (k + 3 ≤ length nodes))
+    go : (i : ℕ) → w.offset ≡ offset_of i → i + 2 ≤ length nodes → (w.offset ≡ negsuc 0) ⊎ ((k : ℕ) × (w.offset ≡ pos k) × (k + 3 ≤ length nodes))
     go zero h l = inl h
     go (suc k) h l = inr (k, h, omega arith)
 
 -- a value below the first node or above the last has no weights, and neither has a NaN
-pub outside : (nodes : List Float) (x : Float) → within nodes x ≡ false → catmull_rom_weights nodes x ≡ Outside
+pub outside : (nodes : List Float) (x : Float) → within nodes x ≡ false → catmull_rom_weights nodes x ≡ None
 unfolding catmull_rom_weights
 outside nodes x h = rw h
 
@@ -86,6 +88,6 @@ at_most_nan nan = refl
 at_most_nan (inf s) = refl
 at_most_nan (fin s m e) = refl
 
-pub nan_outside : (nodes : List Float) → catmull_rom_weights nodes nan ≡ Outside
+pub nan_outside : (nodes : List Float) → catmull_rom_weights nodes nan ≡ None
 unfolding within
 nan_outside nodes = outside nodes nan (rw (at_most_nan (get_or nodes 0 nan)))

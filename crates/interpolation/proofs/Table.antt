@@ -16,16 +16,17 @@ use Rattle.interpolation.specs.Slope.{width, slope_before, slope_after}
 use Rattle.interpolation.specs.Integral.{segment_integral, running_sum, integrate_catmull_rom, cdf_of}
 use Rattle.interpolation.specs.Blend.{row_of, add_row, interpolate, blend_at_most, blend_interval}
 use Rattle.interpolation.specs.Solve.{first_guess, bounded_by, integral_at, value_at, stops, round_of, solve_from, solve}
-use Rattle.interpolation.specs.Sample.{segment_at, drawn, draw_from, sample_catmull_rom_2d}
+use Rattle.interpolation.specs.Sample.{segment_at, drawn, draw, draw_from, sample_catmull_rom_2d}
 use Rattle.answers.specs.Checks.{first_of}
 use Rattle.interpolation.specs.Checks.{max_rows, max_radii, max_allowance, check1, check2, check5, check6, check9, check10}
 use Rattle.answers.specs.Answer.{answered, written}
-use Rattle.interpolation.specs.Own.{weights_value, weights_number, weights, integral_number, integral, cdf_after, sizes_number, sample_number, sample_told, sample2d}
+use Rattle.answers.specs.Refusal.{number, told}
+use Rattle.interpolation.specs.Own.{weights_value, weights_number, weights, integral_value, integral_number, integral, cdf_after, sizes_number, sample_number, sample_value, sample_told, sample2d}
 use Rattle.interpolation.specs.ProvedTable.{ProvedTable, near2, n0, n¾, n1, n2, nodes2, nodes3, over0}
 use Rattle.interpolation.proofs.Allowance.{offered_more}
 
 pub proved : ProvedTable
-unfolding size units is_nan add sub mul div neg lt le eq of_int of_bits round sum_to from list_of mag rounded abs max0 digits root_of sqrt terms squared series exp bisect find_interval at_most node_interval finite all_below all_finite increasing nodes_ok within first_part last_part four_at offset_of catmull_rom_weights width slope_before slope_after segment_integral running_sum integrate_catmull_rom cdf_of row_of add_row interpolate blend_at_most blend_interval first_guess bounded_by integral_at value_at stops round_of solve_from solve segment_at drawn draw_from sample_catmull_rom_2d max_rows max_radii max_allowance check1 check2 check5 check6 check9 check10 first_of answered written weights_value weights_number weights integral_number integral cdf_after sizes_number sample_number sample_told sample2d
+unfolding size units is_nan add sub mul div neg lt le eq of_int of_bits round sum_to from list_of mag rounded abs max0 digits root_of sqrt terms squared series exp bisect find_interval at_most node_interval finite all_below all_finite increasing nodes_ok within first_part last_part four_at offset_of catmull_rom_weights width slope_before slope_after segment_integral running_sum integrate_catmull_rom cdf_of row_of add_row interpolate blend_at_most blend_interval first_guess bounded_by integral_at value_at stops round_of solve_from solve segment_at drawn draw draw_from sample_catmull_rom_2d max_rows max_radii max_allowance check1 check2 check5 check6 check9 check10 first_of answered written weights_value weights_number weights integral_value integral_number integral cdf_after sizes_number sample_number sample_value sample_told sample2d number told
 proved =
     record {
       at_0 = refl;

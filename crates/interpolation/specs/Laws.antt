@@ -1,5 +1,5 @@
 -- The laws of the splines: what holds of the definitions, beyond what they say. `SplineLaws`, at the end, is the contract of a function, `laws`; the records before it are its words.
-use Rattle.std.specs.Prelude.{◌≡◌, true, false, ◌⊎◌, List, ℕ, ◌+◌, ◌-◌, ◌*◌, ◌≤◌, ◌<◌, T, ℤ, pos, negsuc, ◌+ℤ◌, get_or, length, Float}
+use Rattle.std.specs.Prelude.{◌≡◌, true, false, ◌⊎◌, List, ℕ, ◌+◌, ◌-◌, ◌*◌, ◌≤◌, ◌<◌, T, ℤ, pos, negsuc, ◌+ℤ◌, get_or, length, Float, Some, None, Err}
 use Rattle.std.specs.Float.{nan, binary32}
 use Rattle.std.specs.Float.Ieee.{fits, le, eq, neg}
 use Rattle.elementary.specs.Notation.{lit}
@@ -9,8 +9,8 @@ use Rattle.interpolation.specs.Weights.{within, weight_at, offset_of, catmull_ro
 use Rattle.interpolation.specs.Blend.{row_of, interpolate, blend_interval}
 use Rattle.interpolation.specs.Sample.{draw_from, sample_catmull_rom_2d}
 use Rattle.interpolation.specs.declared.weights.Four.{Four}
-use Rattle.interpolation.specs.declared.weights.Weights.TheVariants.{At, Outside}
-use Rattle.interpolation.specs.declared.sample.Sample.TheVariants.{Refused}
+use Rattle.interpolation.specs.declared.weights.Weights.{Weights}
+use Rattle.answers.specs.declared.refusal.Refusal.TheVariants.{Exhausted}
 
 -- each element is a value of binary32, as those of a `&[f32]` are
 abbrev pub Holds : List Float → Type 0
@@ -37,7 +37,7 @@ pub record OnNode (nodes : List Float) (x : Float) (k : ℕ) : Type 0 where
   pub offset : ℤ
   pub four : Four
   pub place : ℕ
-  pub answer : catmull_rom_weights nodes x ≡ At offset four
+  pub answer : catmull_rom_weights nodes x ≡ Some (record { offset = offset; four = four })
   pub node : offset +ℤ pos place ≡ pos k
   pub which : ((place ≡ 1) × (k + 2 ≤ length nodes)) ⊎ ((place ≡ 2) × (k + 1 ≡ length nodes))
   pub is_one : weight_at four place ≡ lit 0x3f800000
@@ -78,19 +78,19 @@ pub record SplineLaws : Type 0 where
   -- on an accepted list and a value within it, the last interval whose left node is at or below the value
   pub last_interval : (nodes : List Float) → AcceptedList nodes → (x : Float) → T (fits binary32 x) → within nodes x ≡ true → LastInterval nodes x (node_interval nodes x)
   -- the offset is -1 to n - 3; a NaN is outside
-  pub offset_range : (nodes : List Float) (x : Float) (o : ℤ) (f : Four) → catmull_rom_weights nodes x ≡ At o f → 2 ≤ length nodes → (o ≡ negsuc 0) ⊎ ((k : ℕ) × (o ≡ pos k) × (k + 3 ≤ length nodes))
-  pub nan_outside : (nodes : List Float) → catmull_rom_weights nodes nan ≡ Outside
+  pub offset_range : (nodes : List Float) (x : Float) (w : Weights) → catmull_rom_weights nodes x ≡ Some w → 2 ≤ length nodes → (w.offset ≡ negsuc 0) ⊎ ((k : ℕ) × (w.offset ≡ pos k) × (k + 3 ≤ length nodes))
+  pub nan_outside : (nodes : List Float) → catmull_rom_weights nodes nan ≡ None
   -- on node k one weight is 1 and the rest are zeros
   pub on_node : (nodes : List Float) → AcceptedList nodes → (x : Float) → T (fits binary32 x) → (k : ℕ) → k < length nodes → eq x (get_or nodes k nan) ≡ true → OnNode nodes x k
   -- on an accepted list every weight is finite and bounded
-  pub weights_bounded : (nodes : List Float) → AcceptedList nodes → (x : Float) → T (fits binary32 x) → (o : ℤ) (f : Four) → catmull_rom_weights nodes x ≡ At o f → Bounded f
+  pub weights_bounded : (nodes : List Float) → AcceptedList nodes → (x : Float) → T (fits binary32 x) → (w : Weights) → catmull_rom_weights nodes x ≡ Some w → Bounded w.four
   -- on any list a nonzero weight's node exists
-  pub reach_of_weights : (nodes : List Float) (x : Float) (o : ℤ) (f : Four) → catmull_rom_weights nodes x ≡ At o f → 2 ≤ length nodes → (o ≡ offset_of (node_interval nodes x)) × Reach f (node_interval nodes x) (length nodes)
+  pub reach_of_weights : (nodes : List Float) (x : Float) (w : Weights) → catmull_rom_weights nodes x ≡ Some w → 2 ≤ length nodes → (w.offset ≡ offset_of (node_interval nodes x)) × Reach w.four (node_interval nodes x) (length nodes)
   -- a blend reads only rows of nonzero weight, and so does a draw
   pub interpolate_same : (a b : List Float) (m : ℕ) (o : ℤ) (f : Four) (col : ℕ) → Agree a b m o f → col < m → interpolate a m o f col ≡ interpolate b m o f col
-  pub draw_same : (nodes2 values values' cdf cdf' : List Float) (o : ℤ) (f : Four) → 2 ≤ length nodes2 → Agree values values' (length nodes2) o f → Agree cdf cdf' (length nodes2) o f
-      → (u : Float) (allowance : ℕ) → draw_from nodes2 values cdf (At o f) u allowance ≡ draw_from nodes2 values' cdf' (At o f) u allowance
+  pub draw_same : (nodes2 values values' cdf cdf' : List Float) (w : Weights) → 2 ≤ length nodes2 → Agree values values' (length nodes2) w.offset w.four → Agree cdf cdf' (length nodes2) w.offset w.four
+      → (u : Float) (allowance : ℕ) → draw_from nodes2 values cdf (Some w) u allowance ≡ draw_from nodes2 values' cdf' (Some w) u allowance
   -- an answer under one allowance is the answer under every larger one
   pub sample_more : (nodes1 nodes2 values cdf : List Float) (alpha u : Float) (allowance other : ℕ)
-      → (sample_catmull_rom_2d nodes1 nodes2 values cdf alpha u allowance ≡ Refused 13 → ⊥) → allowance ≤ other
+      → (sample_catmull_rom_2d nodes1 nodes2 values cdf alpha u allowance ≡ Err Exhausted → ⊥) → allowance ≤ other
       → sample_catmull_rom_2d nodes1 nodes2 values cdf alpha u other ≡ sample_catmull_rom_2d nodes1 nodes2 values cdf alpha u allowance

@@ -1,14 +1,15 @@
 -- The inverse of a segment's integral, by Newton's method and bisection: the end of `sample_catmull_rom_2d`, in its order of operations. A round is one evaluation of `f_hat`, and an allowance bounds their number.
 -- Literals: 0x3f800000 is 1, 0x40000000 is 2, 0x40400000 is 3, 0x3f000000 is 0.5, 0x3e800000 is 0.25 and 0x358637bd is 1e-6.
-use Rattle.std.specs.Prelude.{ℕ, zero, suc, ◌+◌, Bool, cond, true, Float}
+use Rattle.std.specs.Prelude.{ℕ, zero, suc, ◌+◌, Bool, cond, true, Float, Option, Some, None}
 use Rattle.std.specs.Float.Ieee.{lt, le, eq, neg}
 use Rattle.elementary.specs.Notation.{◌⊕◌, ◌⊖◌, ◌⊗◌, ◌⊘◌, lit}
 use Rattle.elementary.specs.Sign.{abs, max0}
 use Rattle.elementary.specs.Root.{sqrt}
 use Rattle.interpolation.specs.declared.solve.Segment.{Segment}
+use Rattle.interpolation.specs.declared.solve.Bracket.{Bracket}
 use Rattle.interpolation.specs.declared.solve.Round.{Round}
-use Rattle.interpolation.specs.declared.solve.Solved.{Solved}
-use Rattle.interpolation.specs.declared.solve.Solved.TheVariants.{At, Exhausted}
+use Rattle.interpolation.specs.declared.solve.Round.TheVariants.{Last, Next}
+use Rattle.interpolation.specs.declared.solve.Solution.{Solution}
 
 -- the first t, by sampling a linear interpolant
 unfoldable pub first_guess : Segment → Float
@@ -37,23 +38,25 @@ value_at s t =
 unfoldable pub stops : Float → Float → Float → Bool
 stops d a b = cond (lt (abs d) (lit 0x358637bd)) true (lt (b ⊖ a) (lit 0x358637bd))
 
--- one round: where it evaluates, what it finds there, and where the next round begins
-unfoldable pub round_of : Segment → Float → Float → Float → Round
-round_of s from a b =
-    let t = bounded_by from a b in
+-- one round: where it evaluates and what it finds there, if it is the last; or where the next round begins
+unfoldable pub round_of : Segment → Bracket → Round
+round_of s from =
+    let t = bounded_by from.t from.a from.b in
     let d = integral_at s t ⊖ s.u in
     let v = value_at s t in
     let below = lt d (lit 0) in
-    record { stop = stops d a b; t = t; value = v; next = t ⊖ d ⊘ v; a = cond below t a; b = cond below b t }
+    cond (stops d from.a from.b) (Last t v) (Next (record { t = t ⊖ d ⊘ v; a = cond below t from.a; b = cond below from.b t }))
 
--- the rounds from t, a and b on, `left` at most, after `made`
-unfoldable pub solve_from : Segment → ℕ → ℕ → Float → Float → Float → Solved
-solve_from s zero made t a b = Exhausted
-solve_from s (suc left) made t a b =
-    let r = round_of s t a b in
-    let rest = solve_from s left (made + 1) r.next r.a r.b in
-    cond r.stop (At r.t r.value (made + 1)) rest
+-- the solution of the last of so many rounds, or what the rounds after it find
+abbrev pub found_or : Round → ℕ → (Bracket → Option Solution) → Option Solution
+found_or (Last t v) rounds after = Some (record { t = t; value = v; rounds = rounds })
+found_or (Next from) rounds after = after from
+
+-- the rounds from where one begins on, `left` at most, after `made`; none where none of them is the last
+unfoldable pub solve_from : Segment → ℕ → ℕ → Bracket → Option Solution
+solve_from s zero made from = None
+solve_from s (suc left) made from = found_or (round_of s from) (made + 1) (solve_from s left (made + 1))
 
 -- the whole loop, which begins with the bounds 0 and 1
-unfoldable pub solve : Segment → ℕ → Solved
-solve s allowance = solve_from s allowance 0 (first_guess s) (lit 0) (lit 0x3f800000)
+unfoldable pub solve : Segment → ℕ → Option Solution
+solve s allowance = solve_from s allowance 0 (record { t = first_guess s; a = lit 0; b = lit 0x3f800000 })

@@ -1,12 +1,11 @@
 -- `catmull_rom_weights` of interpolation.rs, in its order of operations.
-use Rattle.std.specs.Prelude.{ℕ, zero, suc, ◌+◌, ◌-◌, Bool, cond, false, List, ltb, ℤ, pos, negsuc, get_or, length, Float}
+use Rattle.std.specs.Prelude.{ℕ, zero, suc, ◌+◌, ◌-◌, Bool, cond, false, List, [], ◌∷◌, ltb, ℤ, pos, negsuc, get_or, length, Float, Option, Some, None}
 use Rattle.std.specs.Float.{nan}
 use Rattle.std.specs.Float.Ieee.{le, neg}
 use Rattle.elementary.specs.Notation.{◌⊕◌, ◌⊖◌, ◌⊗◌, ◌⊘◌, lit}
 use Rattle.interpolation.specs.Interval.{node_interval}
 use Rattle.interpolation.specs.declared.weights.Four.{Four}
 use Rattle.interpolation.specs.declared.weights.Weights.{Weights}
-use Rattle.interpolation.specs.declared.weights.Weights.TheVariants.{At, Outside}
 
 -- whether x lies within the ends of the nodes; a NaN does not
 unfoldable pub within : List Float → Float → Bool
@@ -60,12 +59,20 @@ weight_at f (suc zero) = f.w1
 weight_at f (suc (suc zero)) = f.w2
 weight_at f (suc (suc (suc p))) = f.w3
 
+-- the four as a list, and a list as four
+abbrev pub list_of_four : Four → List Float
+list_of_four f = f.w0 ∷ f.w1 ∷ f.w2 ∷ f.w3 ∷ []
+
+abbrev pub four_of : List Float → Four
+four_of ws = record { w0 = get_or ws 0 nan; w1 = get_or ws 1 nan; w2 = get_or ws 2 nan; w3 = get_or ws 3 nan }
+
 -- the first of the four nodes around the interval i: i - 1
 unfoldable pub offset_of : ℕ → ℤ
 offset_of zero = negsuc 0
 offset_of (suc i) = pos i
 
-unfoldable pub catmull_rom_weights : List Float → Float → Weights
+-- the offset and the weights; none outside
+unfoldable pub catmull_rom_weights : List Float → Float → Option Weights
 catmull_rom_weights nodes x =
     let i = node_interval nodes x in
-    cond (within nodes x) (At (offset_of i) (four_at nodes x i)) Outside
+    cond (within nodes x) (Some (record { offset = offset_of i; four = four_at nodes x i })) None

@@ -1,11 +1,21 @@
 // The columns of a table, blended over four rows, as `interpolate` of `sample_catmull_rom_2d` does.
-ghost use Rattle.std.specs.Prelude.{◌≡◌, false, ◌+◌, ◌-◌, ◌*◌, ◌≤◌, ◌<◌, min, length};
+ghost use Rattle.std.specs.Prelude.{◌≡◌, false, ◌+◌, ◌-◌, ◌*◌, ◌≤◌, ◌<◌, length};
 ghost use Rattle.std.specs.Float.Ieee.{eq};
 ghost use Rattle.elementary.specs.Notation.{lit};
 ghost use Rattle.interpolation.specs.Weights.{offset_of};
 ghost use Rattle.interpolation.specs.Blend.{InTable, add_row, interpolate, blend_interval};
 
-use crate::weights::Four;
+use crate::weights::Place;
+
+// A table of m columns, blended by the weights of a place among its rows, of which those of nonzero
+// weight lie within it.
+#[derive(Clone, Copy)]
+pub struct Blend<'a> {
+    pub table: &'a [f32],
+    pub m: usize,
+    pub place: Place,
+    pub ghost in_table: { InTable table.now m place.interval place.four },
+}
 
 // The value with one row's part, which is read only where the weight w is not zero. Rows count
 // from 1 here.
@@ -22,52 +32,43 @@ fn add_row(table: &[f32], m: usize, row: usize, col: usize, w: f32, value: f32) 
     value + table[at] * w
 }
 
-// The column's blend by the weights in the interval i of the rows.
-#[tactic(auto, using(crate::proofs::Rows::reading), unfolding(crate::specs::Blend::interpolate))]
-pub fn blend(table: &[f32], m: usize, i: usize, four: Four, col: usize) -> f32
-    requires in_table { InTable table.now m i four }
-    requires col_held { (col < m) × (i ≤ 0x7fff_ffff) }
-    ensures { result ≡ interpolate table.now m (offset_of i) four col }
-{
-    let v0 = add_row(table, m, i, col, four.w0, 0.0);
-    let v1 = add_row(table, m, i + 1, col, four.w1, v0);
-    let v2 = add_row(table, m, i + 2, col, four.w2, v1);
-    add_row(table, m, i + 3, col, four.w3, v2)
-}
-
-// `clamp_t(first - 1, 0, size - 2)`.
-fn clamp_index(first: usize, size: usize) -> usize
-    requires { 2 ≤ size }
-    ensures { result ≡ min (first - 1) (size - 2) }
-{
-    if first == 0 {
-        return 0;
+impl Blend<'_> {
+    // The blend of a column.
+    #[tactic(auto, using(crate::proofs::Rows::reading), unfolding(crate::specs::Blend::interpolate))]
+    pub fn interpolate(self, col: usize) -> f32
+        requires { col < self.m }
+        ensures { result ≡ interpolate self.entry.table.now self.entry.m (offset_of self.entry.place.interval) self.entry.place.four col }
+    {
+        let table = self.table;
+        let m = self.m;
+        let i = self.place.interval;
+        let four = self.place.four;
+        let v0 = add_row(table, m, i, col, four.w0, 0.0);
+        let v1 = add_row(table, m, i + 1, col, four.w1, v0);
+        let v2 = add_row(table, m, i + 2, col, four.w2, v1);
+        add_row(table, m, i + 3, col, four.w3, v2)
     }
-    if size - 2 < first - 1 {
-        size - 2
-    } else {
-        first - 1
-    }
-}
 
-// `find_interval` over the blended columns: the interval that holds u, from 0 to m less 2.
-#[tactic(auto, using(crate::proofs::Bisection::turning), unfolding(crate::specs::Blend::blend_at_most, crate::specs::Blend::blend_interval, crate::specs::Interval::find_interval))]
-pub fn find_blend_interval(cdf: &[f32], m: usize, i: usize, four: Four, u: f32) -> usize
-    requires in_table { InTable cdf.now m i four }
-    requires sizes { (2 ≤ m) × (i ≤ 0x7fff_ffff) }
-    ensures { result ≡ blend_interval cdf.now m (offset_of i) four u }
-{
-    let mut first = 0usize;
-    let mut len = m;
-    while len > 0 {
-        let half = len / 2;
-        let middle = first + half;
-        if blend(cdf, m, i, four, middle) <= u {
-            first = middle + 1;
-            len -= half + 1;
-        } else {
-            len = half;
+    // `find_interval` over the blended columns: the interval that holds u, from 0 to m less 2. A loop
+    // by hand, since there is no list to search: a column is blended when the search looks at it.
+    #[tactic(auto, using(crate::proofs::Bisection::turning), unfolding(crate::specs::Blend::blend_at_most, crate::specs::Blend::blend_interval, crate::specs::Interval::find_interval))]
+    pub fn find_interval(self, u: f32) -> usize
+        requires { 2 ≤ self.m }
+        ensures { result ≡ blend_interval self.entry.table.now self.entry.m (offset_of self.entry.place.interval) self.entry.place.four u }
+    {
+        let m = self.m;
+        let mut first = 0usize;
+        let mut len = m;
+        while len > 0 {
+            let half = len / 2;
+            let middle = first + half;
+            if self.interpolate(middle) <= u {
+                first = middle + 1;
+                len -= half + 1;
+            } else {
+                len = half;
+            }
         }
+        first.saturating_sub(1).min(m - 2)
     }
-    clamp_index(first, m)
 }

@@ -4,11 +4,13 @@
 
 pub mod blend;
 pub mod checks;
+pub mod eights;
 pub mod integral;
 pub mod interval;
 pub mod laws;
 pub mod nodes;
 pub mod own;
 pub mod sample;
+pub mod slope;
 pub mod solve;
 pub mod weights;

@@ -1,9 +1,45 @@
-// Check 6 of document 01.
-ghost use Rattle.std.specs.Prelude.{◌≡◌, ◌+◌, ◌≤◌, length};
+// Check 6 of document 01, and lists of nodes that pass it.
+ghost use Rattle.std.specs.Prelude.{true, ◌≡◌, ◌+◌, ◌≤◌, length, IfOk};
 ghost use Rattle.std.specs.List.{count_by, range_with_len};
+ghost use Rattle.answers.specs.Refusal.{number_of};
+ghost use Rattle.interpolation.specs.Checks.{check6};
 ghost use Rattle.interpolation.specs.Nodes.{finite, rises, increasing, nodes_ok};
 
+use crate::eights::count_below;
+use answers::Refusal;
 use std::simd::prelude::*;
+
+// A list of two nodes or more that check 6 passes.
+#[derive(Clone, Copy)]
+pub struct Nodes<'a> {
+    pub list: &'a [f32],
+    pub ghost some: { 2 ≤ length list.now },
+    pub ghost accepted: { nodes_ok list.now ≡ true },
+}
+
+impl<'a> Nodes<'a> {
+    // Check 6, and the nodes where they pass it.
+    #[tactic(auto, unfolding(answers::specs::Refusal::number, answers::specs::Refusal::number_of, crate::specs::Checks::check6))]
+    pub fn check(list: &'a [f32]) -> Result<Nodes<'a>, Refusal>
+        requires { 2 ≤ length list.now }
+        ensures number { number_of result ≡ check6 list.now }
+        ensures same { IfOk result (λ nodes. nodes.list ≡ list.entry) }
+    {
+        if nodes_ok(list) {
+            Ok(Nodes { list })
+        } else {
+            Err(Refusal::Nodes)
+        }
+    }
+
+    pub fn new(list: &'a [f32]) -> Nodes<'a>
+        requires some { 2 ≤ length list.now }
+        requires accepted { nodes_ok list.now ≡ true }
+        ensures { result.list ≡ list.entry }
+    {
+        Nodes { list }
+    }
+}
 
 // Whether x is neither a NaN nor an infinity.
 #[tactic(auto, using(crate::proofs::Finite::checking))]
@@ -24,27 +60,15 @@ fn eight_rise(nodes: &[f32], i: usize) -> usize
     here.simd_lt(next).to_bitmask().count_ones() as usize
 }
 
-// Whether each node is below the next: as many are as there are pairs. No early exit, so that eight
-// pairs are compared at once.
-#[tactic(auto, using(crate::proofs::Counting::rising, crate::proofs::Lanes::eights), unfolding(crate::proofs::Counting::count))]
+// Whether each node is below the next: as many are as there are pairs.
+#[tactic(auto, using(crate::proofs::Counting::rising))]
 fn is_increasing(nodes: &[f32]) -> bool
     requires { 1 ≤ length nodes.now }
     ensures { result ≡ increasing nodes.now }
 {
     let n = nodes.len() - 1;
-    let mut count = 0usize;
-    let mut i = 0usize;
-    while n - i >= 8 {
-        count += eight_rise(nodes, i);
-        i += 8;
-    }
-    while i < n {
-        if nodes[i] < nodes[i + 1] {
-            count += 1;
-        }
-        i += 1;
-    }
-    count == n
+    let rising = count_below(n, |i| eight_rise(nodes, i), |i| nodes[i] < nodes[i + 1]);
+    rising == n
 }
 
 // Check 6. Where each node is below the next and the last minus the first is finite, every node is.
@@ -53,9 +77,5 @@ pub fn nodes_ok(nodes: &[f32]) -> bool
     requires { 2 ≤ length nodes.now }
     ensures { result ≡ nodes_ok nodes.now }
 {
-    if is_increasing(nodes) {
-        is_finite(nodes[nodes.len() - 1] - nodes[0])
-    } else {
-        false
-    }
+    is_increasing(nodes) && is_finite(nodes[nodes.len() - 1] - nodes[0])
 }

@@ -12,22 +12,27 @@ pub struct Segment {
     pub u: f32,
 }
 
-// What one round finds: whether it is the last, where it evaluated, the value there, and where the next begins.
+// Where a round begins: its guess, and the bounds that it may not leave.
 #[derive(Clone, Copy)]
-pub struct Round {
-    pub stop: bool,
+pub struct Bracket {
     pub t: f32,
-    pub value: f32,
-    pub next: f32,
     pub a: f32,
     pub b: f32,
 }
 
-// The position, the value there and the rounds made; or the allowance is used up.
+// What one round finds: the position and the value there, if it is the last; or where the next begins.
 #[derive(Clone, Copy)]
-pub enum Solved {
-    At(f32, f32, u32),
-    Exhausted,
+pub enum Round {
+    Last { t: f32, value: f32 },
+    Next(Bracket),
+}
+
+// The position, the value there and the rounds made.
+#[derive(Clone, Copy)]
+pub struct Solution {
+    pub t: f32,
+    pub value: f32,
+    pub rounds: u32,
 }
 
 // t, or the middle of a and b where t does not lie between them.
@@ -35,12 +40,7 @@ pub enum Solved {
 fn bounded(t: f32, a: f32, b: f32) -> f32
     ensures { result ≡ Solve.bounded_by t a b }
 {
-    if t >= a {
-        if t <= b {
-            return t;
-        }
-    }
-    0.5 * (a + b)
+    if t >= a && t <= b { t } else { 0.5 * (a + b) }
 }
 
 impl Segment {
@@ -73,32 +73,22 @@ impl Segment {
 
     // One round.
     #[tactic(auto, unfolding(crate::specs::Solve::round_of))]
-    fn round(self, from: f32, a: f32, b: f32) -> Round
-        ensures { result ≡ Solve.round_of self from a b }
+    fn round(self, from: Bracket) -> Round
+        ensures { result ≡ Solve.round_of self from }
     {
-        let t = bounded(from, a, b);
+        let a = from.a;
+        let b = from.b;
+        let t = bounded(from.t, a, b);
         let d = self.integral_at(t) - self.u;
         let value = self.value_at(t);
-        let stop = is_last(d, a, b);
+        if is_last(d, a, b) {
+            return Round::Last { t, value };
+        }
         let next = t - d / value;
         if d < 0.0 {
-            Round {
-                stop,
-                t,
-                value,
-                next,
-                a: t,
-                b,
-            }
+            Round::Next(Bracket { t: next, a: t, b })
         } else {
-            Round {
-                stop,
-                t,
-                value,
-                next,
-                a,
-                b: t,
-            }
+            Round::Next(Bracket { t: next, a, b: t })
         }
     }
 
@@ -116,26 +106,29 @@ impl Segment {
         (f0 - elementary::sqrt(elementary::max0(f0 * f0 + 2.0 * u * (f1 - f0)))) / (f0 - f1)
     }
 
-    // Rounds from the first guess on, until one is the last or the allowance is used up.
+    // Rounds from the first guess on, until one is the last; none where the allowance is used up.
     #[tactic(auto, unfolding(crate::specs::Solve::solve_from, crate::specs::Solve::solve))]
-    pub fn solve(self, allowance: u32) -> Solved
+    pub fn solve(self, allowance: u32) -> Option<Solution>
         ensures { result ≡ Solve.solve self allowance }
     {
-        let mut t = self.first_guess();
-        let mut a = 0.0;
-        let mut b = 1.0;
-        let mut made = 0u32;
-        while made < allowance {
-            let r = self.round(t, a, b);
-            made += 1;
-            if r.stop {
-                return Solved::At(r.t, r.value, made);
+        let mut from = Bracket {
+            t: self.first_guess(),
+            a: 0.0,
+            b: 1.0,
+        };
+        for made in 0..allowance {
+            match self.round(from) {
+                Round::Last { t, value } => {
+                    return Some(Solution {
+                        t,
+                        value,
+                        rounds: made + 1,
+                    });
+                }
+                Round::Next(next) => from = next,
             }
-            t = r.next;
-            a = r.a;
-            b = r.b;
         }
-        Solved::Exhausted
+        None
     }
 }
 
@@ -145,8 +138,5 @@ impl Segment {
 fn is_last(d: f32, a: f32, b: f32) -> bool
     ensures { result ≡ Solve.stops d a b }
 {
-    if d < 1e-6 && -1e-6 < d {
-        return true;
-    }
-    b - a < 1e-6
+    (d < 1e-6 && -1e-6 < d) || b - a < 1e-6
 }

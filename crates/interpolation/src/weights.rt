@@ -1,12 +1,13 @@
 // `catmull_rom_weights` of interpolation.rs.
 ghost use Rattle.std.specs.Prelude.{true, ◌≡◌, ◌+◌, ◌≤◌, ◌<◌, length};
-ghost use Rattle.interpolation.specs.Nodes.{nodes_ok};
-ghost use Rattle.interpolation.specs.Weights.{catmull_rom_weights, four_at, offset_of, within};
+ghost use Rattle.interpolation.specs.Interval.{node_interval};
+ghost use Rattle.interpolation.specs.Weights as Spec;
+ghost use Rattle.interpolation.specs.Weights.{offset_of};
 
-use crate::interval::find_interval;
+use crate::nodes::Nodes;
 
 // The weights of four neighbouring nodes.
-#[derive(Clone, Copy)]
+#[derive(Clone, Copy, Debug, PartialEq)]
 pub struct Four {
     pub w0: f32,
     pub w1: f32,
@@ -14,19 +15,50 @@ pub struct Four {
     pub w3: f32,
 }
 
-// The offset, which is the first of the four nodes and may be -1, and the weights; or a value
-// outside the nodes.
+impl From<Four> for [f32; 4] {
+    ghost from_gives = { λ f ws. ws ≡ Spec.list_of_four f };
+
+    // In their order.
+    fn from(f: Four) -> [f32; 4] {
+        [f.w0, f.w1, f.w2, f.w3]
+    }
+}
+
+impl From<[f32; 4]> for Four {
+    ghost from_gives = { λ ws f. f ≡ Spec.four_of ws };
+
+    // From their order.
+    fn from(ws: [f32; 4]) -> Four {
+        Four {
+            w0: ws[0],
+            w1: ws[1],
+            w2: ws[2],
+            w3: ws[3],
+        }
+    }
+}
+
+// Where a value lies among nodes, which are at most 2^31: its interval, and the weights of the four
+// nodes around it.
 #[derive(Clone, Copy)]
-pub enum Weights {
-    At(i32, Four),
-    Outside,
+pub struct Place {
+    pub interval: usize,
+    pub four: Four,
+    pub ghost small: { interval ≤ 0x7fff_ffff },
+}
+
+// The offset, which is the first of the four nodes and may be -1, and their weights.
+#[derive(Clone, Copy, Debug, PartialEq)]
+pub struct Weights {
+    pub offset: i32,
+    pub four: Four,
 }
 
 // The weights in the interval i.
 #[tactic(auto, unfolding(crate::specs::Weights::four_at, crate::specs::Weights::first_part, crate::specs::Weights::last_part))]
 pub fn four_at(nodes: &[f32], x: f32, i: usize) -> Four
     requires { i + 1 < length nodes.now }
-    ensures { result ≡ four_at nodes.now x i }
+    ensures { result ≡ Spec.four_at nodes.now x i }
 {
     let x0 = nodes[i];
     let x1 = nodes[i + 1];
@@ -62,13 +94,9 @@ pub fn four_at(nodes: &[f32], x: f32, i: usize) -> Four
 #[tactic(auto, unfolding(crate::specs::Weights::within))]
 pub fn is_within(nodes: &[f32], x: f32) -> bool
     requires { 2 ≤ length nodes.now }
-    ensures { result ≡ within nodes.now x }
+    ensures { result ≡ Spec.within nodes.now x }
 {
-    if nodes[0] <= x {
-        x <= nodes[nodes.len() - 1]
-    } else {
-        false
-    }
+    nodes[0] <= x && x <= nodes[nodes.len() - 1]
 }
 
 // i - 1, as a signed number.
@@ -80,17 +108,36 @@ fn offset_of(i: usize) -> i32
     if i == 0 { -1 } else { (i - 1) as i32 }
 }
 
-// The offset and the weights at x. An offset is an `i32`, so the nodes are at most 2^31.
-#[tactic(auto, using(crate::proofs::Bisection::bounding), unfolding(crate::specs::Weights::catmull_rom_weights))]
-pub fn catmull_rom_weights(nodes: &[f32], x: f32) -> Weights
-    requires sizes { (2 ≤ length nodes.now) × (length nodes.now ≤ 0x8000_0000) }
-    requires accepted { nodes_ok nodes.now ≡ true }
-    ensures { result ≡ catmull_rom_weights nodes.now x }
-{
-    if is_within(nodes, x) {
-        let i = find_interval(nodes, x);
-        Weights::At(offset_of(i), four_at(nodes, x, i))
-    } else {
-        Weights::Outside
+impl Nodes<'_> {
+    // The place of x.
+    #[inline]
+    #[tactic(auto, using(crate::proofs::Bisection::bounding))]
+    pub fn place(self, x: f32) -> Place
+        requires { length self.list.now ≤ 0x8000_0000 }
+        ensures interval { result.interval ≡ node_interval self.entry.list.now x }
+        ensures four { result.four ≡ Spec.four_at self.entry.list.now x result.interval }
+    {
+        let interval = self.find_interval(x);
+        Place {
+            interval,
+            four: four_at(self.list, x, interval),
+        }
     }
+}
+
+// The offset and the weights at x, or none where x is outside the nodes. An offset is an `i32`, so
+// the nodes are at most 2^31.
+#[tactic(auto, using(crate::proofs::Bisection::bounding), unfolding(crate::specs::Weights::catmull_rom_weights))]
+pub fn catmull_rom_weights(nodes: Nodes<'_>, x: f32) -> Option<Weights>
+    requires { length nodes.list.now ≤ 0x8000_0000 }
+    ensures { result ≡ Spec.catmull_rom_weights nodes.entry.list.now x }
+{
+    if !is_within(nodes.list, x) {
+        return None;
+    }
+    let place = nodes.place(x);
+    Some(Weights {
+        offset: offset_of(place.interval),
+        four: place.four,
+    })
 }

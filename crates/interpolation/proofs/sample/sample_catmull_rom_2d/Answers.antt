@@ -2,8 +2,8 @@
 use Rattle.interpolation.proofs.Rows.{found_in_table}
 use Rattle.interpolation.proofs.sample.sample_catmull_rom_2d.Goals as goal
 
-pub draw-requires-clause-in_table : goal.draw-requires-clause-in_table
-draw-requires-clause-in_table c = found_in_table _ _ _ _ _ _ c.find_interval-i.ensures c.four_at-four.ensures c.requires.sizes.0 c.requires.values_length
+pub invariant_of-values : goal.invariant_of-values
+invariant_of-values c = record { in_table = found_in_table _ _ _ _ _ _ c.place-place.ensures.interval c.place-place.ensures.four c.args.nodes1.some c.requires.values_length }
 
-pub draw-requires-clause-cdf_in_table : goal.draw-requires-clause-cdf_in_table
-draw-requires-clause-cdf_in_table c = found_in_table _ _ _ _ _ _ c.find_interval-i.ensures c.four_at-four.ensures c.requires.sizes.0 c.requires.cdf_length
+pub invariant_of-cdf : goal.invariant_of-cdf
+invariant_of-cdf c = record { in_table = found_in_table _ _ _ _ _ _ c.place-place.ensures.interval c.place-place.ensures.four c.args.nodes1.some c.requires.cdf_length }

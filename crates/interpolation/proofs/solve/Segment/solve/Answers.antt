@@ -7,4 +7,4 @@ pub loop-made-preserved : goal.loop-made-preserved
 unfolding solve_from
 loop-made-preserved c =
     let more : c.args.allowance - c.loop-made.made ≡ suc (c.args.allowance - (c.loop-made.made + 1)) = omega arith in
-    (omega arith, rw (← c.loop-made.invariant.1, more, ← c.round-r.ensures, c.if-r.false))
+    rw (← c.loop-made.invariant, more, ← c.in-Next.ensures)
