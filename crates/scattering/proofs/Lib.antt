@@ -3,5 +3,6 @@
 -- the constants, by computation
 pub mod Literals
 -- the sums over lists
+pub mod Steps
 pub mod SingleSum
 pub mod MultipleSum

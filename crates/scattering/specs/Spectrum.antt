@@ -1,11 +1,12 @@
 -- `RGBSpectrum` of spectrum.rs, and the three channels: what the tables and their queries use of it.
-use Rattle.std.specs.Prelude.{Bool, ◌||◌, Float}
+use Rattle.std.specs.Prelude.{◌≡◌, ℕ, ◌<◌, Bool, ◌||◌, List, [], ◌∷◌, Float, Result, MatchResult}
 use Rattle.std.specs.Float.Ieee.{is_nan}
 use Rattle.elementary.specs.Notation.{◌⊕◌, ◌⊗◌, lit}
 use Rattle.scattering.specs.Clamp.{clamp_t}
 use Rattle.scattering.specs.declared.spectrum.Spectrum.{Spectrum}
 use Rattle.scattering.specs.declared.spectrum.RGBEnum.{RGBEnum}
 use Rattle.scattering.specs.declared.spectrum.RGBEnum.TheVariants.{Red, Green, Blue}
+use Rattle.scattering.specs.declared.spectrum.UnknownChannel.{UnknownChannel}
 
 abbrev pub rgb : Float → Float → Float → Spectrum
 rgb r g b = record { r = r; g = g; b = b }
@@ -16,6 +17,20 @@ uniform v = rgb v v v
 
 abbrev pub black : Spectrum
 black = uniform (lit 0)
+
+-- the three values, red first
+abbrev pub values : Spectrum → List Float
+values s = s.r ∷ s.g ∷ s.b ∷ []
+
+-- the number of a channel
+unfoldable pub channel_number : RGBEnum → ℕ
+channel_number Red = 0
+channel_number Green = 1
+channel_number Blue = 2
+
+-- the result is the channel of this number, or an error with a number that is no channel's
+abbrev pub Numbers : ℕ → Result RGBEnum UnknownChannel → Type 0
+Numbers n r = MatchResult r (λ ch. channel_number ch ≡ n) (λ e. (e.0 ≡ n) × (2 < n))
 
 -- `Index` by `RGBEnum`
 unfoldable pub channel : Spectrum → RGBEnum → Float

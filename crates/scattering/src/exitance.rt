@@ -1,29 +1,22 @@
 // The offered call `sw`: how the light that leaves is spread over directions.
-#![tactic(auto, using(answers::proofs::Refusals::refusals), unfolding(crate::specs::Exitance::sw_number, crate::specs::Exitance::sw_value, crate::specs::Exitance::sw_told, crate::specs::Exitance::sw))]
+#![tactic(auto, unfolding(crate::specs::Exitance::sw_value))]
 
 ghost use Rattle.std.specs.Prelude.{◌≡◌};
+ghost use Rattle.answers.specs.Refusal.{number_of};
 ghost use Rattle.scattering.specs.Exitance as Exitance;
 
 use crate::checks::{check_cosine, check_eta};
 use crate::fresnel::fr_dielectric;
 use crate::moments::fresnel_moment1;
 use crate::spectrum::Spectrum;
+use answers::Refusal;
 use elementary::PI;
 
-// The spectrum, or a refusal's number.
-#[derive(Clone, Copy)]
-pub enum SwAnswer {
-    Value(Spectrum),
-    Refused(u32),
-}
-
-fn sw_number(eta: f32, cosine: f32) -> u32
-    ensures { result ≡ Exitance.sw_number eta cosine }
+#[tactic(auto, using(answers::proofs::Results::checking), unfolding(answers::specs::Refusal::number_of, crate::specs::Exitance::sw_number))]
+fn check_sw(eta: f32, cosine: f32) -> Result<(), Refusal>
+    ensures { number_of result ≡ Exitance.sw_number eta cosine }
 {
-    let range = check_eta(eta);
-    if range > 0 {
-        return range;
-    }
+    check_eta(eta)?;
     check_cosine(cosine)
 }
 
@@ -36,12 +29,10 @@ fn sw_value(eta: f32, cosine: f32) -> f32
 
 // The Fresnel term at the cosine of a direction, for the index of refraction eta: three equal
 // values. Refusals: 4, 9.
-pub fn sw(eta: f32, cosine: f32) -> SwAnswer
+#[tactic(auto, using(answers::proofs::Results::calling), unfolding(answers::specs::Refusal::number_of, answers::specs::Refusal::told, crate::specs::Exitance::sw_told, crate::specs::Exitance::sw))]
+pub fn sw(eta: f32, cosine: f32) -> Result<Spectrum, Refusal>
     ensures { Exitance.sw_told result ≡ Exitance.sw eta cosine }
 {
-    let number = sw_number(eta, cosine);
-    if number > 0 {
-        return SwAnswer::Refused(number);
-    }
-    SwAnswer::Value(Spectrum::new(sw_value(eta, cosine)))
+    check_sw(eta, cosine)?;
+    Ok(Spectrum::new(sw_value(eta, cosine)))
 }

@@ -15,11 +15,11 @@ pub mod single;
 pub mod spectrum;
 
 pub use clamp::clamp_t;
-pub use exitance::{SwAnswer, sw};
+pub use exitance::sw;
 pub use fresnel::fr_dielectric;
 pub use moments::{fresnel_moment1, fresnel_moment2};
 pub use multiple::{beam_diffusion_ms, beam_diffusion_ms_with};
 pub use phase::phase_hg;
-pub use samples::{N_SAMPLES, sample_logs};
+pub use samples::{N_SAMPLES, SampleLogs};
 pub use single::{beam_diffusion_ss, beam_diffusion_ss_with};
-pub use spectrum::{RGBEnum, Spectrum};
+pub use spectrum::{RGBEnum, Spectrum, UnknownChannel};

@@ -1,9 +1,11 @@
 // What the sums of beam diffusion share: the samples of depth, and distances.
-#![tactic(auto, using(elementary::proofs::Mapped::filling), unfolding(crate::specs::Samples::n_samples, crate::specs::Samples::sample_ln, crate::specs::Samples::sample_logs, crate::specs::Samples::distance))]
+#![tactic(auto, unfolding(crate::specs::Samples::n_samples, crate::specs::Samples::sample_ln, crate::specs::Samples::sample_logs))]
 
 ghost use Rattle.std.specs.Prelude.{◌≡◌, map, length};
 ghost use Rattle.elementary.specs.Exponential.{exp};
 ghost use Rattle.scattering.specs.Samples as Samples;
+
+use elementary::lists::{fill_by, map_into};
 
 // The number of samples of a sum.
 pub const N_SAMPLES: usize = 100;
@@ -18,14 +20,20 @@ fn sample_ln(i: u16) -> f32
 }
 
 // The logarithms at all samples. They are the same for every sum, so a caller that needs many sums
-// fills them in once.
-#[tactic(auto, using(elementary::proofs::Mapped::listing), unfolding(crate::specs::Samples::n_samples, crate::specs::Samples::sample_logs))]
-pub fn sample_logs(logs: &mut [f32])
-    requires { length logs.old ≡ Samples.n_samples }
-    ensures { logs.new ≡ Samples.sample_logs }
-{
-    for i in 0..N_SAMPLES as u16 {
-        logs[i as usize] = sample_ln(i);
+// makes them once.
+#[derive(Clone, Copy)]
+pub struct SampleLogs {
+    pub values: [f32; N_SAMPLES],
+    pub ghost as_defined: { values ≡ Samples.sample_logs },
+}
+
+impl SampleLogs {
+    pub fn new() -> SampleLogs
+        ensures { result.values ≡ Samples.sample_logs }
+    {
+        let mut values = [0.0f32; N_SAMPLES];
+        fill_by(&mut values, |i| sample_ln(i as u16));
+        SampleLogs { values }
     }
 }
 
@@ -34,17 +42,13 @@ pub fn distances(r: f32, z: &[f32], out: &mut [f32])
     requires { length out.old ≡ length z.now }
     ensures { out.new ≡ map (Samples.distance r) z.now }
 {
-    let n = z.len();
     let square = r * r;
-    for i in 0..n {
-        out[i] = square + z[i] * z[i];
-    }
+    map_into(z, out, |z| square + z * z);
     elementary::sqrt_each(out)
 }
 
 // The exponential of each element, in its place.
-pub fn exponentials(xs: &mut [f32])
-    requires { length xs.old ≡ Samples.n_samples }
+pub fn exponentials(xs: &mut [f32; N_SAMPLES])
     ensures { xs.new ≡ map exp xs.old }
 {
     let mut room = [0.0f64; N_SAMPLES];

@@ -1,19 +1,50 @@
-// The spectrum of spectrum.rs, and its channels. Methods stand in place of the operator traits.
-#![tactic(auto, using(elementary::proofs::Values::testing), unfolding(crate::specs::Spectrum::channel, crate::specs::Spectrum::plus, crate::specs::Spectrum::times, crate::specs::Spectrum::clamp, crate::specs::Spectrum::has_nans))]
+// The spectrum of spectrum.rs, and its channels.
+#![tactic(auto, using(elementary::proofs::Values::testing), unfolding(crate::specs::Spectrum::channel, crate::specs::Spectrum::channel_number, crate::specs::Spectrum::plus, crate::specs::Spectrum::times, crate::specs::Spectrum::clamp, crate::specs::Spectrum::has_nans))]
 
 ghost use Rattle.std.specs.Prelude.{◌≡◌};
 ghost use Rattle.scattering.specs.Spectrum as Spectra;
 
 use crate::clamp::clamp_t;
+use std::error::Error;
+use std::fmt;
+use std::ops::{Add, Index, Mul};
 
-#[derive(Clone, Copy)]
+#[derive(Clone, Copy, Debug, PartialEq, Eq, Hash)]
 pub enum RGBEnum {
     Red,
     Green,
     Blue,
 }
 
-#[derive(Clone, Copy)]
+// A number that is no channel's.
+#[derive(Clone, Copy, Debug, PartialEq, Eq, Hash)]
+pub struct UnknownChannel(pub u32);
+
+impl TryFrom<u32> for RGBEnum {
+    type Error = UnknownChannel;
+
+    ghost try_from_gives = { Spectra.Numbers };
+
+    // The channel of a number.
+    fn try_from(number: u32) -> Result<RGBEnum, UnknownChannel> {
+        match number {
+            0 => Ok(RGBEnum::Red),
+            1 => Ok(RGBEnum::Green),
+            2 => Ok(RGBEnum::Blue),
+            _ => Err(UnknownChannel(number)),
+        }
+    }
+}
+
+impl fmt::Display for UnknownChannel {
+    fn fmt<W: fmt::Write>(&self, f: &mut fmt::Formatter<W>) -> fmt::Result {
+        write!(f, "no channel has the number {}", self.0)
+    }
+}
+
+impl Error for UnknownChannel {}
+
+#[derive(Clone, Copy, Debug, PartialEq)]
 pub struct Spectrum {
     pub r: f32,
     pub g: f32,
@@ -40,37 +71,6 @@ impl Spectrum {
         Spectrum { r, g, b }
     }
 
-    // The value of one channel.
-    pub fn channel(self, ch: RGBEnum) -> f32
-        ensures { result ≡ Spectra.channel self ch }
-    {
-        match ch {
-            RGBEnum::Red => self.r,
-            RGBEnum::Green => self.g,
-            RGBEnum::Blue => self.b,
-        }
-    }
-
-    pub fn add(self, other: Spectrum) -> Spectrum
-        ensures { result ≡ Spectra.plus self other }
-    {
-        Spectrum {
-            r: self.r + other.r,
-            g: self.g + other.g,
-            b: self.b + other.b,
-        }
-    }
-
-    pub fn mul(self, other: Spectrum) -> Spectrum
-        ensures { result ≡ Spectra.times self other }
-    {
-        Spectrum {
-            r: self.r * other.r,
-            g: self.g * other.g,
-            b: self.b * other.b,
-        }
-    }
-
     // Each channel clamped. A NaN stays one, where the Rust panics: `has_nans` tells.
     pub fn clamp(self, low: f32, high: f32) -> Spectrum
         ensures { result ≡ Spectra.clamp self low high }
@@ -88,7 +88,59 @@ impl Spectrum {
         let r = self.r;
         let g = self.g;
         let b = self.b;
-        (r != r) | (g != g) | (b != b)
+        r.is_nan() | g.is_nan() | b.is_nan()
+    }
+}
+
+impl Add for Spectrum {
+    type Output = Spectrum;
+
+    ghost add_gives = { λ s t r. r ≡ Spectra.plus s t };
+
+    fn add(self, other: Spectrum) -> Spectrum {
+        Spectrum {
+            r: self.r + other.r,
+            g: self.g + other.g,
+            b: self.b + other.b,
+        }
+    }
+}
+
+impl Mul for Spectrum {
+    type Output = Spectrum;
+
+    ghost mul_gives = { λ s t r. r ≡ Spectra.times s t };
+
+    fn mul(self, other: Spectrum) -> Spectrum {
+        Spectrum {
+            r: self.r * other.r,
+            g: self.g * other.g,
+            b: self.b * other.b,
+        }
+    }
+}
+
+// The value of one channel.
+impl Index<RGBEnum> for Spectrum {
+    type Output = f32;
+
+    ghost index_gives = { λ s ch v. v ≡ Spectra.channel s ch };
+
+    fn index(&self, ch: RGBEnum) -> &f32 {
+        match ch {
+            RGBEnum::Red => &self.r,
+            RGBEnum::Green => &self.g,
+            RGBEnum::Blue => &self.b,
+        }
+    }
+}
+
+// The three values, red first.
+impl From<Spectrum> for [f32; 3] {
+    ghost from_gives = { λ s xs. xs ≡ Spectra.values s };
+
+    fn from(s: Spectrum) -> [f32; 3] {
+        [s.r, s.g, s.b]
     }
 }
 

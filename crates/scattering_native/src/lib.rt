@@ -1,5 +1,6 @@
-// The sums of beam diffusion for C: oracle/scattering links them, to time them beside the Rust.
-#![tactic(auto, unfolding(scattering::specs::Samples::n_samples, elementary::specs::Lists::sum_to))]
+// The sums of beam diffusion for C: oracle/scattering links them, to time them beside the Rust. C
+// calls each by a name of its own, so single and multiple scattering have two functions each.
+#![tactic(auto)]
 
 ghost use Rattle.std.specs.Prelude.{◌≡◌, ℕ, length, get_or};
 ghost use Rattle.std.specs.Float.{nan};
@@ -7,7 +8,8 @@ ghost use Rattle.elementary.specs.Lists.{sum_to};
 ghost use Rattle.scattering.specs.Single.{beam_diffusion_ss};
 ghost use Rattle.scattering.specs.Multiple.{beam_diffusion_ms};
 
-use scattering::N_SAMPLES;
+use elementary::lists::sum_by;
+use scattering::SampleLogs;
 
 #[unsafe(no_mangle)]
 pub extern "C" fn scattering_beam_diffusion_ss(
@@ -35,7 +37,7 @@ pub extern "C" fn scattering_beam_diffusion_ms(
     scattering::beam_diffusion_ms(sigma_s, sigma_a, g, eta, r)
 }
 
-// The sum over all radii, as a row of a table asks for them: with the logarithms filled in once.
+// The sum over all radii, as a row of a table asks for them: with the logarithms made once.
 #[unsafe(no_mangle)]
 pub extern "C" fn scattering_row_ss(
     sigma_s: f32,
@@ -46,14 +48,10 @@ pub extern "C" fn scattering_row_ss(
 ) -> f32
     ensures { result ≡ sum_to (λ (i : ℕ). beam_diffusion_ss sigma_s sigma_a g eta (get_or radii.now i nan)) (length radii.now) }
 {
-    let mut logs = [0.0f32; N_SAMPLES];
-    scattering::sample_logs(&mut logs);
-    let mut sum = 0.0;
-    let n = radii.len();
-    for i in 0..n {
-        sum = sum + scattering::beam_diffusion_ss_with(sigma_s, sigma_a, g, eta, radii[i], &logs);
-    }
-    sum
+    let logs = SampleLogs::new();
+    sum_by(radii.len(), |i| {
+        scattering::beam_diffusion_ss_with(sigma_s, sigma_a, g, eta, radii[i], &logs)
+    })
 }
 
 #[unsafe(no_mangle)]
@@ -66,12 +64,8 @@ pub extern "C" fn scattering_row_ms(
 ) -> f32
     ensures { result ≡ sum_to (λ (i : ℕ). beam_diffusion_ms sigma_s sigma_a g eta (get_or radii.now i nan)) (length radii.now) }
 {
-    let mut logs = [0.0f32; N_SAMPLES];
-    scattering::sample_logs(&mut logs);
-    let mut sum = 0.0;
-    let n = radii.len();
-    for i in 0..n {
-        sum = sum + scattering::beam_diffusion_ms_with(sigma_s, sigma_a, g, eta, radii[i], &logs);
-    }
-    sum
+    let logs = SampleLogs::new();
+    sum_by(radii.len(), |i| {
+        scattering::beam_diffusion_ms_with(sigma_s, sigma_a, g, eta, radii[i], &logs)
+    })
 }
