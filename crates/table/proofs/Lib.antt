@@ -1,6 +1,6 @@
 -- The laws of a table.
 pub mod Refusals
-pub mod Cleared
+pub mod Results
 pub mod Literals
 pub mod NodeLists
 pub mod Parts

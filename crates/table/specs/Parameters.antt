@@ -1,11 +1,14 @@
 -- What document 01's calls on a table are about ("Starting a table"): the record, the six lists that a caller lends, and what a call does.
-use Rattle.std.specs.Prelude.{ℕ, List, [], length, Float}
-use Rattle.answers.specs.Answer.{Answer, refusal, value}
+use Rattle.std.specs.Prelude.{ℕ, ◌≡◌, ◌*◌, List, [], length, Result, Float}
+use Rattle.answers.specs.Answer.{Answer, value}
+use Rattle.answers.specs.Refusal.{told}
+use Rattle.answers.specs.declared.refusal.Refusal.{Refusal}
 use Rattle.interpolation.specs.Checks.{max_rows, max_radii}
 use Rattle.table.specs.declared.parameters.Record.{Record}
 use Rattle.table.specs.declared.parameters.Lengths.{Lengths}
-use Rattle.table.specs.declared.parameters.Outcome.{Outcome}
-use Rattle.table.specs.declared.parameters.Outcome.TheVariants.{Done, Refused}
+use Rattle.table.specs.declared.lists.Table.{Table}
+use Rattle.table.specs.declared.lists.TableMut.{TableMut}
+use Rattle.table.specs.declared.lists.Lent.{Lent}
 
 -- ---- the record: N, M, g, eta
 
@@ -46,6 +49,40 @@ lengths_of t = record {
   marks = length t.marks;
 }
 
+-- the lengths that a record's lists have
+abbrev pub lengths_for : Record → Lengths
+lengths_for r = record {
+  rho_samples = r.n;
+  radius_samples = r.m;
+  profile = r.n * r.m;
+  rho_eff = r.n;
+  profile_cdf = r.n * r.m;
+  marks = r.n;
+}
+
+-- what the code's tables hold: to be read, to be built, and to be started
+abbrev pub lists_of : Table → Lists
+lists_of t = lists t.rho_samples.now t.radius_samples.now t.profile.now t.rho_eff.now t.profile_cdf.now t.marks.now
+
+abbrev pub lists_of_mut : TableMut → Lists
+lists_of_mut t = lists t.rho_samples.now t.radius_samples.now t.profile.now t.rho_eff.now t.profile_cdf.now t.marks.now
+
+abbrev pub lists_of_lent : Lent → Lists
+lists_of_lent t = lists t.rho_samples.now t.radius_samples.now t.profile.now t.rho_eff.now t.profile_cdf.now t.marks.now
+
+-- the same record and the same lists of the caller's, whatever a call has written in them
+abbrev pub SameTable : TableMut → TableMut → Type 0
+SameTable s t =
+    (s.record ≡ t.record) × (s.rho_samples ≡ t.rho_samples) × (s.radius_samples ≡ t.radius_samples)
+    × (s.profile.ghost_name ≡ t.profile.ghost_name) × (s.rho_eff.ghost_name ≡ t.rho_eff.ghost_name)
+    × (s.profile_cdf.ghost_name ≡ t.profile_cdf.ghost_name) × (s.marks.ghost_name ≡ t.marks.ghost_name)
+
+abbrev pub SameLent : Lent → Lent → Type 0
+SameLent s t =
+    (s.rho_samples.ghost_name ≡ t.rho_samples.ghost_name) × (s.radius_samples.ghost_name ≡ t.radius_samples.ghost_name)
+    × (s.profile.ghost_name ≡ t.profile.ghost_name) × (s.rho_eff.ghost_name ≡ t.rho_eff.ghost_name)
+    × (s.profile_cdf.ghost_name ≡ t.profile_cdf.ghost_name) × (s.marks.ghost_name ≡ t.marks.ghost_name)
+
 -- ---- what a call does: its answer, and the six lists as it leaves them
 
 pub record Effect : Type 0 where
@@ -59,6 +96,5 @@ effect answer t = record { answer = answer; lists = t }
 abbrev pub done : Answer
 done = value [] []
 
-unfoldable pub outcome_told : Outcome → Answer
-outcome_told Done = done
-outcome_told (Refused number) = refusal number
+unfoldable pub outcome_told : Result Unit Refusal → Answer
+outcome_told = told (λ _. done)

@@ -1,91 +1,81 @@
-// The checks of document 01's table that concern starting and building, 1 to 7. Each gives its
-// number, or 0 where it refuses nothing.
-#![tactic(auto, using(crate::proofs::Cited::chains), unfolding(crate::specs::Checks::check3, crate::specs::Checks::check5, crate::specs::Checks::check7, crate::specs::Checks::record_number, crate::specs::Checks::start_number, crate::specs::Checks::table_number, crate::specs::Checks::build_number))]
+// The checks of document 01's table that concern starting and building, 1 to 7.
+#![tactic(auto, using(crate::proofs::Cited::chains), unfolding(answers::specs::Refusal::number, answers::specs::Refusal::number_of, crate::specs::Checks::check3, crate::specs::Checks::check5, crate::specs::Checks::check7, crate::specs::Checks::record_number, crate::specs::Checks::start_number, crate::specs::Checks::table_number, crate::specs::Checks::build_number))]
 
-ghost use Rattle.std.specs.Prelude.{◌≡◌, ◌≤◌, length};
+ghost use Rattle.std.specs.Prelude.{◌≡◌, ◌≤◌, IfOk, length};
+ghost use Rattle.answers.specs.Refusal.{number_of};
 ghost use Rattle.interpolation.specs.Checks.{max_rows, max_radii};
+ghost use Rattle.table.specs.Parameters.{lengths_of, lists_of};
 ghost use Rattle.table.specs.Checks as Checks;
 
+use crate::lists::Table;
 use crate::parameters::{Lengths, Record};
-use answers::first_of;
-use interpolation::checks::{check_nodes, check_radii, check_rows};
+use answers::{Refusal, refuse_unless};
+use interpolation::checks::{check_radii, check_rows};
+use interpolation::nodes::Nodes;
 use scattering::checks::check_eta;
 
-pub fn check_g(g: f32) -> u32
-    ensures { result ≡ Checks.check3 g }
+pub fn check_g(g: f32) -> Result<(), Refusal>
+    ensures { number_of result ≡ Checks.check3 g }
 {
-    if Record::MIN_G < g && g < Record::MAX_G {
-        0
-    } else {
-        3
-    }
+    refuse_unless(
+        Record::MIN_G < g && g < Record::MAX_G,
+        Refusal::PhaseAsymmetry,
+    )
 }
 
-// The product of the two sizes is taken once both are in range, so it cannot overflow.
-pub fn check_lengths(r: Record, l: Lengths) -> u32
+pub fn check_lengths(r: Record, l: Lengths) -> Result<(), Refusal>
     requires { (r.n ≤ max_rows) × (r.m ≤ max_radii) }
-    ensures { result ≡ Checks.check5 r l }
+    ensures { number_of result ≡ Checks.check5 r l }
 {
-    let cells = r.n * r.m;
-    let fit = (l.rho_samples == r.n)
-        & (l.radius_samples == r.m)
-        & (l.profile == cells)
-        & (l.rho_eff == r.n)
-        & (l.profile_cdf == cells)
-        & (l.marks == r.n);
-    if fit { 0 } else { 5 }
+    refuse_unless(l == r.lengths(), Refusal::Length)
 }
 
-pub fn check_row(r: Record, row: usize) -> u32
-    ensures { result ≡ Checks.check7 r row }
+pub fn check_row(r: Record, row: usize) -> Result<(), Refusal>
+    ensures { number_of result ≡ Checks.check7 r row }
 {
-    if row < r.n { 0 } else { 7 }
+    refuse_unless(row < r.n, Refusal::RowNumber)
 }
 
 // 1 to 4
-pub fn record_number(r: Record) -> u32
-    ensures { result ≡ Checks.record_number r }
+pub fn check_record(r: Record) -> Result<(), Refusal>
+    ensures { number_of result ≡ Checks.record_number r }
 {
-    first_of!(
-        check_rows(r.n),
-        check_radii(r.m),
-        check_g(r.g),
-        check_eta(r.eta)
-    )
+    check_rows(r.n)?;
+    check_radii(r.m)?;
+    check_g(r.g)?;
+    check_eta(r.eta)
 }
 
 // 1 to 5
-pub fn start_number(r: Record, l: Lengths) -> u32
-    ensures { result ≡ Checks.start_number r l }
+pub fn check_start(r: Record, l: Lengths) -> Result<(), Refusal>
+    ensures { number_of result ≡ Checks.start_number r l }
 {
-    first_of!(record_number(r), check_lengths(r, l))
+    check_record(r)?;
+    check_lengths(r, l)
 }
 
-// 1 to 6
-pub fn table_number(r: Record, rho_samples: &[f32], radius_samples: &[f32], l: Lengths) -> u32
-    requires { (l.rho_samples ≡ length rho_samples.now) × (l.radius_samples ≡ length radius_samples.now) }
-    ensures { result ≡ Checks.table_number r rho_samples.now radius_samples.now l }
+// The nodes of a table that has passed the checks 1 to 6.
+#[derive(Clone, Copy)]
+pub struct TableNodes<'a> {
+    pub rho: Nodes<'a>,
+    pub radii: Nodes<'a>,
+}
+
+// 1 to 6. The nodes are those of the table.
+pub fn check_table(t: Table<'_>) -> Result<TableNodes<'_>, Refusal>
+    ensures number { number_of result ≡ Checks.table_number t.entry.record t.entry.rho_samples.now t.entry.radius_samples.now (lengths_of (lists_of t.entry)) }
+    ensures nodes { IfOk result (λ nodes. (nodes.rho.list ≡ t.entry.rho_samples) × (nodes.radii.list ≡ t.entry.radius_samples)) }
 {
-    first_of!(
-        start_number(r, l),
-        check_nodes(rho_samples),
-        check_nodes(radius_samples)
-    )
+    check_start(t.record, t.lengths())?;
+    let rho = Nodes::check(t.rho_samples)?;
+    let radii = Nodes::check(t.radius_samples)?;
+    Ok(TableNodes { rho, radii })
 }
 
 // 1 to 7
-pub fn build_number(
-    r: Record,
-    row: usize,
-    rho_samples: &[f32],
-    radius_samples: &[f32],
-    l: Lengths,
-) -> u32
-    requires { (l.rho_samples ≡ length rho_samples.now) × (l.radius_samples ≡ length radius_samples.now) }
-    ensures { result ≡ Checks.build_number r row rho_samples.now radius_samples.now l }
+pub fn check_build(t: Table<'_>, row: usize) -> Result<(), Refusal>
+    ensures { number_of result ≡ Checks.build_number t.entry.record row t.entry.rho_samples.now t.entry.radius_samples.now (lengths_of (lists_of t.entry)) }
 {
-    first_of!(
-        table_number(r, rho_samples, radius_samples, l),
-        check_row(r, row)
-    )
+    check_table(t)?;
+    check_row(t.record, row)
 }

@@ -6,11 +6,13 @@
 pub mod building;
 pub mod checks;
 pub mod laws;
+pub mod lists;
 pub mod nodes;
 pub mod parameters;
 pub mod row;
 pub mod starting;
 
 pub use building::build;
-pub use parameters::{Lengths, Outcome, Record};
+pub use lists::{Lent, Table, TableMut};
+pub use parameters::{Lengths, Record};
 pub use starting::start;

@@ -4,7 +4,10 @@ ghost use Rattle.elementary.specs.Lists.{list_of};
 ghost use Rattle.interpolation.specs.Checks.{max_rows};
 ghost use Rattle.table.specs.Nodes as Nodes;
 
-// The radii: 0, 0.0025, and then each the former times 1.2.
+use elementary::lists::fill_by;
+
+// The radii: 0, 0.0025, and then each the former times 1.2. By index, since each is taken from the
+// one before in the same list.
 #[tactic(auto, using(crate::proofs::Cited::fills), unfolding(crate::specs::Nodes::radius_sample))]
 pub fn radius_nodes(radius_samples: &mut [f32])
     requires { 2 ≤ length radius_samples.old }
@@ -19,7 +22,7 @@ pub fn radius_nodes(radius_samples: &mut [f32])
 }
 
 // The albedos: evenly spaced exponents, from 0 to 1.
-#[tactic(auto, using(crate::proofs::Cited::fills), unfolding(crate::specs::Nodes::rho_sample, interpolation::specs::Checks::max_rows))]
+#[tactic(auto, unfolding(crate::specs::Nodes::rho_sample, interpolation::specs::Checks::max_rows))]
 pub fn rho_nodes(rho_samples: &mut [f32])
     requires { length rho_samples.old ≤ max_rows }
     ensures { rho_samples.new ≡ list_of (length rho_samples.old) (Nodes.rho_sample (length rho_samples.old)) }
@@ -27,7 +30,8 @@ pub fn rho_nodes(rho_samples: &mut [f32])
     let n = rho_samples.len() as u16;
     let last = n as f32 - 1.0;
     let scale = 1.0 - elementary::exp(-8.0);
-    for i in 0..n {
-        rho_samples[i as usize] = (1.0 - elementary::exp(-8.0 * i as f32 / last)) / scale;
-    }
+    fill_by(
+        rho_samples,
+        |i| (1.0 - elementary::exp(-8.0 * i as u16 as f32 / last)) / scale,
+    );
 }

@@ -1,7 +1,7 @@
-// What a table's calls are given and give: the record, the lengths of the six lists, and the answer.
+// What a table's calls are given beside its lists: the record, and the lengths of the six lists.
 #![tactic(auto, using(crate::proofs::Literals::lowest), unfolding(interpolation::specs::Checks::max_rows, interpolation::specs::Checks::max_radii))]
 
-ghost use Rattle.std.specs.Prelude.{◌≡◌};
+ghost use Rattle.std.specs.Prelude.{◌≡◌, ◌≤◌};
 ghost use Rattle.interpolation.specs.Checks.{min_nodes, max_rows, max_radii};
 ghost use Rattle.scattering.specs.Checks.{min_eta, max_eta};
 ghost use Rattle.table.specs.Parameters as Parameters;
@@ -52,6 +52,23 @@ impl Record {
             eta,
         }
     }
+
+    // The lengths of its six lists. The product of the two sizes cannot overflow.
+    #[tactic(auto, using(interpolation::proofs::Refusals::cells_small))]
+    pub fn lengths(self) -> Lengths
+        requires { (self.n ≤ max_rows) × (self.m ≤ max_radii) }
+        ensures { result ≡ Parameters.lengths_for self }
+    {
+        let cells = self.n * self.m;
+        Lengths {
+            rho_samples: self.n,
+            radius_samples: self.m,
+            profile: cells,
+            rho_eff: self.n,
+            profile_cdf: cells,
+            marks: self.n,
+        }
+    }
 }
 
 // The limits are those of the definitions: that is the contract, and the function does nothing.
@@ -62,8 +79,8 @@ pub fn limits()
     ensures eta_bounds { (Record.MIN_ETA ≡ min_eta) × (Record.MAX_ETA ≡ max_eta) }
 {}
 
-// The lengths of the six lists that are lent.
-#[derive(Clone, Copy)]
+// The lengths of the six lists.
+#[derive(Clone, Copy, Debug, PartialEq, Eq)]
 pub struct Lengths {
     pub rho_samples: usize,
     pub radius_samples: usize,
@@ -71,11 +88,4 @@ pub struct Lengths {
     pub rho_eff: usize,
     pub profile_cdf: usize,
     pub marks: usize,
-}
-
-// The answer of starting and building: done, or a refusal's number.
-#[derive(Clone, Copy)]
-pub enum Outcome {
-    Done,
-    Refused(u32),
 }
