@@ -14,7 +14,10 @@ use Rattle.answers.proofs.Refusals.{first_none}
 use Rattle.interpolation.specs.Sample.{sample_catmull_rom_2d}
 use Rattle.interpolation.specs.Checks.{check9, check10}
 use Rattle.interpolation.specs.declared.sample.Sample.{Sample}
-use Rattle.interpolation.specs.declared.sample.Sample.TheVariants.{Refused}
+use Rattle.std.specs.Prelude.{Option, Result, Err}
+use Rattle.answers.specs.Refusal.{number, told}
+use Rattle.answers.specs.declared.refusal.Refusal.{Refusal}
+use Rattle.answers.specs.declared.refusal.Refusal.TheVariants.{Exhausted}
 use Rattle.interpolation.proofs.Draws.{of_draw}
 use Rattle.interpolation.proofs.Allowance as allowances
 use Rattle.scattering.specs.Literals.{one}
@@ -30,7 +33,7 @@ use Rattle.bssrdf.specs.Axes.{albedo_weights, radius_weights}
 use Rattle.bssrdf.specs.Needed.{rows_of, pdf_rows, sr_rows, sample_rows, among}
 use Rattle.bssrdf.specs.Checks.{check12, query_number, draw_number}
 use Rattle.bssrdf.specs.Question.{Question}
-use Rattle.bssrdf.specs.Drawing.{drawn_value, divided, drawn_at, sample_question, sample_sr}
+use Rattle.bssrdf.specs.Drawing.{drawn_value, divided_value, divided, drawn_at, sample_question, sample_sr}
 use Rattle.bssrdf.specs.declared.coefficients.Coefficients.{Coefficients}
 use Rattle.bssrdf.specs.declared.coefficients.WorldRadius.{WorldRadius}
 use Rattle.bssrdf.proofs.AcceptedQueries.{query_accepted, two_rows}
@@ -76,18 +79,18 @@ abbrev pub ValueOr13 : Answer → Type 0
 ValueOr13 a = (a ≡ value a.floats a.wholes) ⊎ (a ≡ refusal 13)
 
 pub value_or_13 : (t : Lists) (ch : RGBEnum) (c : Coefficients) (u : Float) (allowance : ℕ) → ValueOr13 (drawn_at t ch c u allowance)
-unfolding drawn_at divided
+unfolding drawn_at divided divided_value told number
 value_or_13 t ch c u allowance = go (eq sigma (lit 0))
   where
     sigma : Float
     sigma = channel (sigma_t c) ch
 
-    sample : Sample
+    sample : Result (Option Sample) Refusal
     sample = sample_catmull_rom_2d t.rho_samples t.radius_samples t.profile t.profile_cdf (channel (rho c) ch) u allowance
 
     go : (b : Bool) → ValueOr13 (cond b (drawn_value (neg one) 0) (divided sigma sample))
     go true = inl refl
-    go false = of_draw (λ s. ValueOr13 (divided sigma s)) (λ p v d n. inl refl) (inl refl) (inr refl) _ _ _ _ _ u allowance
+    go false = of_draw (λ s. ValueOr13 (divided sigma s)) (λ s. inl refl) (inl refl) (inr refl) _ _ _ _ _ u allowance
 
 pub drawn_number : (t : Lists) (ch : RGBEnum) (c : Coefficients) (u : Float) (allowance : ℕ) → (drawn_at t ch c u allowance).number ≡ 11 → ⊥
 drawn_number t ch c u allowance h =
@@ -99,16 +102,16 @@ drawn_number t ch c u allowance h =
 -- ---- a larger allowance
 
 drawn_more : (t : Lists) (ch : RGBEnum) (c : Coefficients) (u : Float) (allowance other : ℕ) → (drawn_at t ch c u allowance).refused ≡ false → allowance ≤ other → drawn_at t ch c u other ≡ drawn_at t ch c u allowance
-unfolding drawn_at divided
+unfolding drawn_at divided divided_value told number
 drawn_more t ch c u allowance other h l = go (eq sigma (lit 0)) h
   where
     sigma : Float
     sigma = channel (sigma_t c) ch
 
-    sample : ℕ → Sample
+    sample : ℕ → Result (Option Sample) Refusal
     sample = sample_catmull_rom_2d t.rho_samples t.radius_samples t.profile t.profile_cdf (channel (rho c) ch) u
 
-    not_13 : (divided sigma (sample allowance)).refused ≡ false → sample allowance ≡ Refused 13 → ⊥
+    not_13 : (divided sigma (sample allowance)).refused ≡ false → sample allowance ≡ Err Exhausted → ⊥
     not_13 h e = cc
 
     go : (b : Bool) → (cond b (drawn_value (neg one) 0) (divided sigma (sample allowance))).refused ≡ false

@@ -9,14 +9,12 @@ use native.Mathlib.Omega.{arith}
 use lib.Dec.{eqb}
 use Rattle.answers.specs.Answer.{Answer, refusal, answered}
 use Rattle.answers.specs.Checks.{first_of}
-use Rattle.scattering.specs.Spectrum.{has_nans}
-use Rattle.scattering.specs.declared.spectrum.Spectrum.{Spectrum}
 use Rattle.table.specs.Parameters.{Lists}
 use Rattle.table.specs.TableRow.{TableRow, row_at}
 use Rattle.table.specs.Sets.{Rows}
 use Rattle.table.specs.declared.parameters.Record.{Record}
 use Rattle.bssrdf.specs.Needed.{is_marked, all_marked, among}
-use Rattle.bssrdf.specs.Checks.{check11, check12}
+use Rattle.bssrdf.specs.Checks.{check11}
 use Rattle.bssrdf.specs.Question.{Question, posed}
 use Rattle.bssrdf.specs.Laws.{Alike, Missing, Supposed, Asks}
 use Rattle.bssrdf.proofs.NeededRows.{all_marked_lem, some_missing, marked_same}
@@ -82,15 +80,3 @@ posed_same r held q asks s t H a =
     after_checks (q s).order (q t).order _ _ _ _ (asks.order_same s t (alike_in (λ k h. absurd (false≢true h)) a))
     (λ o i.
     answered (first_of ((marks_same r (q s).rows s t (asks.rows_exist s o) a ∙ ap (check11 t.marks) (asks.rows_same s t H o a)) i ∷ [])) (asks.built_same s t H o a i))
-
--- ---- a check for NaNs alone
-
-pub some_nan : (s : Spectrum) (a : Answer) → has_nans s ≡ true → answered (check12 s) a ≡ refusal 12
-unfolding check12 answered
-some_nan s a e = rw e
-
-pub no_nan : (s : Spectrum) (a : Answer) → has_nans s ≡ false → answered (check12 s) a ≡ a
-unfolding check12 answered
-no_nan s a e = rw e
-
-pub ruleset answering = (refused_before, row_missing, rows_built_lem, some_nan, no_nan)

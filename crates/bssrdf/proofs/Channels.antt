@@ -6,7 +6,8 @@ use Prim.Native.Nat.{ℕ}
 use lib.Ieee.{Float}
 use Rattle.elementary.specs.Notation.{lit}
 use Rattle.interpolation.specs.declared.weights.Weights.{Weights}
-use Rattle.interpolation.specs.declared.weights.Weights.TheVariants.{At, Outside}
+use Rattle.interpolation.specs.declared.weights.Four.{Four}
+use Rattle.std.specs.Prelude.{Option, Some, None}
 use Rattle.scattering.specs.Spectrum.{channel}
 use Rattle.scattering.specs.declared.spectrum.RGBEnum.{RGBEnum}
 use Rattle.scattering.specs.declared.spectrum.RGBEnum.TheVariants.{Red, Green, Blue}
@@ -20,21 +21,21 @@ use Rattle.bssrdf.specs.declared.coefficients.OpticalRadius.{OpticalRadius}
 
 -- ---- what depends on the weights of both axes and is z where one of them is outside
 
-pub record ZeroOutside {A : Type 0} (F : Weights → Weights → A) (z : A) : Type 0 where
-  pub no_radius : (w : Weights) → F w Outside ≡ z
-  pub no_albedo : (v : Weights) → F Outside v ≡ z
+pub record ZeroOutside {A : Type 0} (F : Option Weights → Option Weights → A) (z : A) : Type 0 where
+  pub no_radius : (w : Option Weights) → F w None ≡ z
+  pub no_albedo : (v : Option Weights) → F None v ≡ z
 
-module _ {A : Type 0} (F : Weights → Weights → A) (z : A) (Z : ZeroOutside F z) (w v : Weights) where
-  pub outside : (p q : Bool) → (p && q) ≡ false → F (cond p w Outside) (cond q v Outside) ≡ z
+module _ {A : Type 0} (F : Option Weights → Option Weights → A) (z : A) (Z : ZeroOutside F z) (w v : Option Weights) where
+  pub outside : (p q : Bool) → (p && q) ≡ false → F (cond p w None) (cond q v None) ≡ z
   outside true true e = absurd (true≢false e)
   outside true false e = Z.no_radius w
-  outside false q e = Z.no_albedo (cond q v Outside)
+  outside false q e = Z.no_albedo (cond q v None)
 
   -- one test for both
-  pub one_test : (p q : Bool) → F (cond (p && q) w Outside) (cond (p && q) v Outside) ≡ F (cond p w Outside) (cond q v Outside)
+  pub one_test : (p q : Bool) → F (cond (p && q) w None) (cond (p && q) v None) ≡ F (cond p w None) (cond q v None)
   one_test true true = refl
-  one_test true false = Z.no_radius Outside ∙ sym (Z.no_radius w)
-  one_test false q = Z.no_radius Outside ∙ sym (Z.no_albedo (cond q v Outside))
+  one_test true false = Z.no_radius None ∙ sym (Z.no_radius w)
+  one_test false q = Z.no_radius None ∙ sym (Z.no_albedo (cond q v None))
 
 -- ---- rows, radiance and density
 
@@ -42,39 +43,39 @@ pub rows_zero : ZeroOutside rows_of_both []
 unfolding rows_of_both rows_of
 rows_zero = record { no_radius = λ w. refl; no_albedo = none }
   where
-    none : (v : Weights) → rows_of_both Outside v ≡ []
-    none (At o g) = refl
-    none Outside = refl
+    none : (v : Option Weights) → rows_of_both None v ≡ []
+    none (Some v) = refl
+    none None = refl
 
 pub sr_zero : (profile : List Float) (m : ℕ) (x : OpticalRadius) → ZeroOutside (channel_sr profile m x) (lit 0)
 unfolding channel_sr
 sr_zero profile m x = record { no_radius = none; no_albedo = λ v. refl }
   where
-    none : (w : Weights) → channel_sr profile m x w Outside ≡ lit 0
-    none (At o f) = refl
-    none Outside = refl
+    none : (w : Option Weights) → channel_sr profile m x w None ≡ lit 0
+    none (Some w) = refl
+    none None = refl
 
 pub density_zero : (profile rho_eff : List Float) (m : ℕ) (sigma_t : Float) (x : OpticalRadius) → ZeroOutside (density_of profile rho_eff m sigma_t x) (lit 0)
 unfolding density_of
 density_zero profile rho_eff m sigma_t x = record { no_radius = none; no_albedo = λ v. refl }
   where
-    none : (w : Weights) → density_of profile rho_eff m sigma_t x w Outside ≡ lit 0
-    none (At o f) = refl
-    none Outside = refl
+    none : (w : Option Weights) → density_of profile rho_eff m sigma_t x w None ≡ lit 0
+    none (Some w) = refl
+    none None = refl
 
 -- ---- three channels, as the code has them
 
-pub sr_both : (profile : List Float) (m : ℕ) (x : OpticalRadius) (i : ℕ) (ws : List Float) (j : ℕ) (vs : List Float) (p q : Bool)
-    → channel_sr profile m x (weights_by (p && q) i ws) (weights_by (p && q) j vs) ≡ channel_sr profile m x (weights_by p i ws) (weights_by q j vs)
+pub sr_both : (profile : List Float) (m : ℕ) (x : OpticalRadius) (i : ℕ) (f : Four) (j : ℕ) (g : Four) (p q : Bool)
+    → channel_sr profile m x (weights_by (p && q) i f) (weights_by (p && q) j g) ≡ channel_sr profile m x (weights_by p i f) (weights_by q j g)
 unfolding weights_by
-sr_both profile m x i ws j vs = one_test (channel_sr profile m x) (lit 0) (sr_zero profile m x) _ _
+sr_both profile m x i f j g = one_test (channel_sr profile m x) (lit 0) (sr_zero profile m x) _ _
 
-pub rows_both : (i : ℕ) (ws : List Float) (j : ℕ) (vs : List Float) (p q : Bool) → rows_of (weights_by (p && q) i ws) ≡ rows_of_both (weights_by p i ws) (weights_by q j vs)
+pub rows_both : (i : ℕ) (f : Four) (j : ℕ) (g : Four) (p q : Bool) → rows_of (weights_by (p && q) i f) ≡ rows_of_both (weights_by p i f) (weights_by q j g)
 unfolding weights_by rows_of rows_of_both
-rows_both i ws j vs true true = refl
-rows_both i ws j vs true false = refl
-rows_both i ws j vs false true = refl
-rows_both i ws j vs false false = refl
+rows_both i f j g true true = refl
+rows_both i f j g true false = refl
+rows_both i f j g false true = refl
+rows_both i f j g false false = refl
 
 -- ---- a channel of the albedos
 

@@ -18,7 +18,7 @@ use Rattle.interpolation.specs.Blend.{row_of}
 use Rattle.interpolation.specs.Laws.{Reach}
 use Rattle.interpolation.specs.declared.weights.Four.{Four}
 use Rattle.interpolation.specs.declared.weights.Weights.{Weights}
-use Rattle.interpolation.specs.declared.weights.Weights.TheVariants.{At, Outside}
+use Rattle.std.specs.Prelude.{Option, Some, None}
 use Rattle.interpolation.proofs.Finite.{and_left, and_right}
 use Rattle.interpolation.proofs.Rows.{row_is}
 use Rattle.interpolation.proofs.Reach.{reach_of_weights}
@@ -107,26 +107,26 @@ place_exists f i n r (suc (suc zero)) l h = omega (arith, row_is i 2)
 place_exists f i n r (suc (suc (suc zero))) l h = let a = r.last h in omega (arith, row_is i 3)
 place_exists f i n r (suc (suc (suc (suc p)))) l h = absurd (omega arith)
 
-pub node_exists : (nodes : List Float) (x : Float) (o : ℤ) (f : Four) → catmull_rom_weights nodes x ≡ At o f → 2 ≤ length nodes → (place : ℕ) → place < 4 → eq (weight_at f place) (lit 0) ≡ false → row_of o place < length nodes
-node_exists nodes x o f e two place l h =
-    let a = reach_of_weights nodes x o f e two in
-    rw a.0 (place_exists f (node_interval nodes x) (length nodes) a.1 place l h)
+pub node_exists : (nodes : List Float) (x : Float) (w : Weights) → catmull_rom_weights nodes x ≡ Some w → 2 ≤ length nodes → (place : ℕ) → place < 4 → eq (weight_at w.four place) (lit 0) ≡ false → row_of w.offset place < length nodes
+node_exists nodes x w e two place l h =
+    let a = reach_of_weights nodes x w e two in
+    rw a.0 (place_exists w.four (node_interval nodes x) (length nodes) a.1 place l h)
 
 pub rows_exist : (nodes : List Float) (x : Float) → 2 ≤ length nodes → (k : ℕ) → among (rows_of (catmull_rom_weights nodes x)) k ≡ true → k < length nodes
 unfolding rows_of among
 rows_exist nodes x two k = go (catmull_rom_weights nodes x) refl
   where
-    go : (w : Weights) → catmull_rom_weights nodes x ≡ w → among (rows_of w) k ≡ true → k < length nodes
-    go (At o f) e h =
-        let a = weighted o f k h in
-        rw (sym a.row) (node_exists nodes x o f e two a.place a.small a.nonzero)
-    go Outside e h = absurd (false≢true h)
+    go : (w : Option Weights) → catmull_rom_weights nodes x ≡ w → among (rows_of w) k ≡ true → k < length nodes
+    go (Some w) e h =
+        let a = weighted w.offset w.four k h in
+        rw (sym a.row) (node_exists nodes x w e two a.place a.small a.nonzero)
+    go None e h = absurd (false≢true h)
 
 -- fewer are needed where the radius is outside, or where nothing is drawn
-pub both_among : (a b : Weights) (k : ℕ) → among (rows_of_both a b) k ≡ true → among (rows_of a) k ≡ true
+pub both_among : (a b : Option Weights) (k : ℕ) → among (rows_of_both a b) k ≡ true → among (rows_of a) k ≡ true
 unfolding rows_of_both among
-both_among a (At o g) k h = h
-both_among a Outside k h = absurd (false≢true h)
+both_among a (Some w) k h = h
+both_among a None k h = absurd (false≢true h)
 
 pub unless_among : (b : Bool) (rows : List ℕ) (k : ℕ) → among (cond b [] rows) k ≡ true → among rows k ≡ true
 unfolding among

@@ -20,7 +20,7 @@ use Rattle.interpolation.specs.Checks.{check9, check10}
 use Rattle.interpolation.specs.Laws.{Agree}
 use Rattle.interpolation.specs.declared.weights.Four.{Four}
 use Rattle.interpolation.specs.declared.weights.Weights.{Weights}
-use Rattle.interpolation.specs.declared.weights.Weights.TheVariants.{At, Outside}
+use Rattle.std.specs.Prelude.{Option, Some, None}
 use Rattle.interpolation.proofs.Rows.{interpolate_same}
 use Rattle.interpolation.proofs.Needed.{draw_same}
 use Rattle.scattering.specs.Literals.{one}
@@ -149,28 +149,28 @@ module _ (r : Record) (S : Rows) (s t : Lists) (A : Alike r S s t) (c : Coeffici
 -- ---- a channel
 
 -- what is known of a channel that is inside
-record Inside (r : Record) (s t : Lists) (c : Coefficients) (ch : RGBEnum) (x : WorldRadius) (o : ℤ) (f : Four) (o' : ℤ) (g : Four) : Type 0 where
-  albedo_is : albedo_weights s c ch ≡ At o f
-  radius_is : radius_weights s c x ch ≡ At o' g
-  same : (k : ℕ) → among (weighted_rows o f) k ≡ true → row_at r s k ≡ row_at r t k
-  columns : (j : ℕ) → j < 4 → eq (weight_at g j) (lit 0) ≡ false → row_of o' j < r.m
+record Inside (r : Record) (s t : Lists) (c : Coefficients) (ch : RGBEnum) (x : WorldRadius) (w v : Weights) : Type 0 where
+  albedo_is : albedo_weights s c ch ≡ Some w
+  radius_is : radius_weights s c x ch ≡ Some v
+  same : (k : ℕ) → among (weighted_rows w.offset w.four) k ≡ true → row_at r s k ≡ row_at r t k
+  columns : (j : ℕ) → j < 4 → eq (weight_at v.four j) (lit 0) ≡ false → row_of v.offset j < r.m
 
 -- a value F of a channel, by the lists and the weights, is the same on alike tables if it is so inside
 module _ (r : Record) (S : Rows) (s t : Lists) (A : Alike r S s t) (c : Coefficients) (h : query_number r s c ≡ 0) (ch : RGBEnum) (x : WorldRadius)
-    (sub : (k : ℕ) → among (pdf_rows s ch c x) k ≡ true → S k ≡ true) (F : Lists → Weights → Weights → Float)
-    (inside : (o : ℤ) (f : Four) (o' : ℤ) (g : Four) → Inside r s t c ch x o f o' g → F s (At o f) (At o' g) ≡ F t (At o f) (At o' g))
-    (no_radius : (o : ℤ) (f : Four) → F s (At o f) Outside ≡ F t (At o f) Outside) (no_albedo : (v : Weights) → F s Outside v ≡ F t Outside v) where
-  by_weights : (w v : Weights) → albedo_weights s c ch ≡ w → radius_weights s c x ch ≡ v → ((k : ℕ) → among (rows_of_both w v) k ≡ true → S k ≡ true) → F s w v ≡ F t w v
+    (sub : (k : ℕ) → among (pdf_rows s ch c x) k ≡ true → S k ≡ true) (F : Lists → Option Weights → Option Weights → Float)
+    (inside : (w v : Weights) → Inside r s t c ch x w v → F s (Some w) (Some v) ≡ F t (Some w) (Some v))
+    (no_radius : (w : Weights) → F s (Some w) None ≡ F t (Some w) None) (no_albedo : (v : Option Weights) → F s None v ≡ F t None v) where
+  by_weights : (w v : Option Weights) → albedo_weights s c ch ≡ w → radius_weights s c x ch ≡ v → ((k : ℕ) → among (rows_of_both w v) k ≡ true → S k ≡ true) → F s w v ≡ F t w v
   unfolding rows_of_both rows_of radius_weights
-  by_weights (At o f) (At o' g) p q needed =
-      inside o f o' g (record {
+  by_weights (Some w) (Some v) p q needed =
+      inside w v (record {
         albedo_is = p;
         radius_is = q;
         same = λ k l. A.row k (albedo_rows r s c h k ch (rw p l)) (needed k l);
-        columns = λ j l w. rw (sym (query_accepted r s c h).sizes.fits.radius_fits) (node_exists s.radius_samples (optical_radius c x ch).0 o' g q (two_radii r s c h) j l w);
+        columns = λ j l n. rw (sym (query_accepted r s c h).sizes.fits.radius_fits) (node_exists s.radius_samples (optical_radius c x ch).0 v q (two_radii r s c h) j l n);
       })
-  by_weights (At o f) Outside p q needed = no_radius o f
-  by_weights Outside v p q needed = no_albedo v
+  by_weights (Some w) None p q needed = no_radius w
+  by_weights None v p q needed = no_albedo v
 
   by_channel : F s (albedo_weights s c ch) (radius_weights s c x ch) ≡ F t (albedo_weights t c ch) (radius_weights t c x ch)
   unfolding pdf_rows
@@ -182,21 +182,21 @@ module _ (r : Record) (S : Rows) (s t : Lists) (A : Alike r S s t) (c : Coeffici
   unfolding density_at density_of blended_albedo
   density_same =
       by_channel r S s t A c h ch x sub (λ u. density_of u.profile u.rho_eff r.m (channel (sigma_t c) ch) (optical_radius c x ch))
-      (λ o f o' g i.
+      (λ w v i.
       rw (
-        sum_same r.m s.profile t.profile o f (profiles_agree r s t o f i.same) o' g i.columns,
-        interpolate_same s.rho_eff t.rho_eff 1 o f 0 (albedos_agree r s t o f i.same) (omega arith),
+        sum_same r.m s.profile t.profile w.offset w.four (profiles_agree r s t w.offset w.four i.same) v.offset v.four i.columns,
+        interpolate_same s.rho_eff t.rho_eff 1 w.offset w.four 0 (albedos_agree r s t w.offset w.four i.same) (omega arith),
       ))
-      (λ o f. refl) (λ v. refl)
+      (λ w. refl) (λ v. refl)
 
   channel_same : NodesHold s → channel_at r s c x ch ≡ channel_at r t c x ch
   unfolding channel_at channel_sr
   channel_same H =
       by_channel r S s t A c h ch x sub (λ u. channel_sr u.profile r.m (optical_radius c x ch))
-      (λ o f o' g i.
+      (λ w v i.
       ap (cancelled (optical_radius c x ch))
-      (tensor_same r.m s.profile t.profile o f (profiles_agree r s t o f i.same) o' g i.columns (finite_at f (rho_bounded r s c h H ch o f i.albedo_is)) (finite_at g (radius_bounded r s c h H x ch o' g i.radius_is))))
-      (λ o f. refl) (λ v. refl)
+      (tensor_same r.m s.profile t.profile w.offset w.four (profiles_agree r s t w.offset w.four i.same) v.offset v.four i.columns (finite_at w.four (rho_bounded r s c h H ch w i.albedo_is)) (finite_at v.four (radius_bounded r s c h H x ch v i.radius_is))))
+      (λ w. refl) (λ v. refl)
 
 -- ---- the calls
 
@@ -216,15 +216,15 @@ module _ (r : Record) (s t : Lists) (c : Coefficients) (h : query_number r s c �
 
 -- a draw, by the albedo alone
 module _ (r : Record) (s t : Lists) (ch : RGBEnum) (c : Coefficients) (h : query_number r s c ≡ 0) (A : Alike r (among (sample_rows s ch c)) s t) (u : Float) (allowance : ℕ) where
-  by_albedo : (w : Weights) → albedo_weights s c ch ≡ w → ((k : ℕ) → among (rows_of w) k ≡ true → among (sample_rows s ch c) k ≡ true)
+  by_albedo : (w : Option Weights) → albedo_weights s c ch ≡ w → ((k : ℕ) → among (rows_of w) k ≡ true → among (sample_rows s ch c) k ≡ true)
       → draw_from s.radius_samples s.profile s.profile_cdf w u allowance ≡ draw_from s.radius_samples t.profile t.profile_cdf w u allowance
   unfolding rows_of draw_from
-  by_albedo (At o f) p needed =
+  by_albedo (Some w) p needed =
       let e = (query_accepted r s c h).sizes.fits.radius_fits in
-      let same : (k : ℕ) → among (weighted_rows o f) k ≡ true → row_at r s k ≡ row_at r t k = λ k l. A.row k (albedo_rows r s c h k ch (rw p l)) (needed k l) in
-      draw_same s.radius_samples s.profile t.profile s.profile_cdf t.profile_cdf o f (two_radii r s c h)
-      (rw e (profiles_agree r s t o f same)) (rw e (cdfs_agree r s t o f same)) u allowance
-  by_albedo Outside p needed = refl
+      let same : (k : ℕ) → among (weighted_rows w.offset w.four) k ≡ true → row_at r s k ≡ row_at r t k = λ k l. A.row k (albedo_rows r s c h k ch (rw p l)) (needed k l) in
+      draw_same s.radius_samples s.profile t.profile s.profile_cdf t.profile_cdf w (two_radii r s c h)
+      (rw e (profiles_agree r s t w.offset w.four same)) (rw e (cdfs_agree r s t w.offset w.four same)) u allowance
+  by_albedo None p needed = refl
 
   pub drawn_same : drawn_at s ch c u allowance ≡ drawn_at t ch c u allowance
   unfolding drawn_at sample_catmull_rom_2d albedo_weights sample_rows

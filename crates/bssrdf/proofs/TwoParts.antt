@@ -2,11 +2,14 @@
 use mathlib.Core.Path.{◌≡◌, refl, sym, ap, ◌∙◌}
 use mathlib.Core.Bool.{true}
 use mathlib.Core.List.{List, [], ◌∷◌}
-use Prim.Native.Nat.{ℕ, zero, suc, ◌*◌, ◌≤◌, ◌<◌}
+use Prim.Native.Nat.{ℕ, zero, suc, ◌*◌, ◌≤◌}
 use native.Mathlib.Omega.{arith}
 use lib.Ieee.{Float}
 use Rattle.answers.specs.Checks.{first_of}
-use Rattle.answers.proofs.Refusals.{first_here, first_next, first_last, first_none, chain}
+use Rattle.answers.specs.Refusal.{number}
+use Rattle.answers.specs.declared.refusal.Refusal.{Refusal}
+use Rattle.answers.proofs.Refusals.{first_here, first_next, first_last, first_none}
+use Rattle.answers.proofs.Results.{number_above_0, checking}
 use Rattle.answers.specs.Answer.{refusal}
 use Rattle.interpolation.specs.Checks.{max_rows, max_radii, check6, check9, check10}
 use Rattle.interpolation.specs.Nodes.{nodes_ok}
@@ -41,11 +44,17 @@ two_and_two zero zero zero zero = refl
 
 -- a question is refused by the first part, or by the second where the first passes
 module _ (marks : List ℕ) (q : Question) (a b : ℕ) (parts : q.order ≡ first_of (a ∷ b ∷ [])) where
-  pub by_first : 0 < a → posed marks q ≡ refusal a
-  by_first h = let e : q.order ≡ a = parts ∙ first_here a _ h in refused_before marks q (omega arith) ∙ ap refusal e
+  pub by_first : (e : Refusal) → number e ≡ a → refusal (number e) ≡ posed marks q
+  by_first e h =
+      let p = number_above_0 e in
+      let o : q.order ≡ number e = parts ∙ first_here a _ (omega arith) ∙ sym h in
+      sym (refused_before marks q (omega arith) ∙ ap refusal o)
 
-  pub by_second : a ≡ 0 → 0 < b → posed marks q ≡ refusal b
-  by_second z h = let e : q.order ≡ b = parts ∙ first_next a _ (omega arith) ∙ first_last b in refused_before marks q (omega arith) ∙ ap refusal e
+  pub by_second : (e : Refusal) → a ≡ 0 → number e ≡ b → refusal (number e) ≡ posed marks q
+  by_second e z h =
+      let p = number_above_0 e in
+      let o : q.order ≡ number e = parts ∙ first_next a _ (omega arith) ∙ first_last b ∙ sym h in
+      sym (refused_before marks q (omega arith) ∙ ap refusal o)
 
 -- and passes where both do
 pub both_pass : {w p q : ℕ} → w ≡ first_of (p ∷ q ∷ []) → p ≡ 0 → q ≡ 0 → w ≡ 0
@@ -77,6 +86,7 @@ pub record RowsPassed (r : Record) (l : Lengths) (nodes : List Float) : Type 0 w
   pub started : Started r l
   pub ok : nodes_ok nodes ≡ true
   pub two_rows : 2 ≤ l.rho_samples
+  pub two_radii : 2 ≤ l.radius_samples
   pub few_rows : l.rho_samples ≤ 0x8000_0000
   pub few_radii : l.radius_samples ≤ 0x8000_0000
   pub profile_fits : l.profile ≡ l.rho_samples * r.m
@@ -92,6 +102,7 @@ rows_passed r l nodes h =
       started = s;
       ok = nodes_accepted _ (sym (first_last _) ∙ a.1);
       two_rows = omega (arith, s.fits.rho_fits, s.range.rows.0);
+      two_radii = omega (arith, s.fits.radius_fits, s.range.radii.0);
       few_rows = omega (arith, s.fits.rho_fits, s.range.rows.1);
       few_radii = omega (arith, s.fits.radius_fits, s.range.radii.1);
       profile_fits = rw s.fits.rho_fits s.fits.profile_fits;
@@ -106,6 +117,6 @@ pub record RadiiPassed (nodes : List Float) (c : Coefficients) : Type 0 where
 pub radii_passed : (nodes : List Float) (c : Coefficients) → first_of (check6 nodes ∷ check8 c ∷ []) ≡ 0 → RadiiPassed nodes c
 radii_passed nodes c h = let a = first_none _ _ h in record { ok = nodes_accepted _ a.0; coefficients = sym (first_last _) ∙ a.1 }
 
-pub ruleset refusing = (chain, query_parts, start_accepted, rows_passed)
+pub ruleset refusing = (checking, start_accepted)
 
 pub ruleset passing = (rows_passed, radii_passed)

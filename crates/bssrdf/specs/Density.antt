@@ -1,14 +1,15 @@
 -- The offered call `pdf_sr`, of `TabulatedBssrdf` in bssrdf.rs, in its order of operations.
-use Rattle.std.specs.Prelude.{ℕ, cond, List, [], ◌∷◌, ℤ, Float}
+use Rattle.std.specs.Prelude.{ℕ, cond, List, [], ◌∷◌, ℤ, Float, Option, Some, None, Result}
 use Rattle.std.specs.Float.Ieee.{eq}
 use Rattle.elementary.specs.Notation.{◌⊕◌, ◌⊗◌, ◌⊘◌, lit}
 use Rattle.elementary.specs.Sign.{max0}
-use Rattle.answers.specs.Answer.{Answer, refusal, value}
+use Rattle.answers.specs.Answer.{Answer, value}
+use Rattle.answers.specs.Refusal.{told}
+use Rattle.answers.specs.declared.refusal.Refusal.{Refusal}
 use Rattle.interpolation.specs.Weights.{weight_at}
 use Rattle.interpolation.specs.Blend.{interpolate}
 use Rattle.interpolation.specs.declared.weights.Four.{Four}
 use Rattle.interpolation.specs.declared.weights.Weights.{Weights}
-use Rattle.interpolation.specs.declared.weights.Weights.TheVariants.{At, Outside}
 use Rattle.scattering.specs.Spectrum.{channel}
 use Rattle.scattering.specs.declared.spectrum.RGBEnum.{RGBEnum}
 use Rattle.table.specs.Parameters.{Lists}
@@ -22,8 +23,6 @@ use Rattle.bssrdf.specs.Radiance.{eval_profile, over_four, cancelled}
 use Rattle.bssrdf.specs.declared.coefficients.Coefficients.{Coefficients}
 use Rattle.bssrdf.specs.declared.coefficients.WorldRadius.{WorldRadius}
 use Rattle.bssrdf.specs.declared.coefficients.OpticalRadius.{OpticalRadius}
-use Rattle.bssrdf.specs.declared.density.Density as Declared
-use Rattle.bssrdf.specs.declared.density.Density.TheVariants.{Value, Refused}
 
 -- a place of the sum: it is skipped where the radius weight is zero, and so is a whole row where the albedo weight is
 unfoldable pub add_term : Float → Float → Float → Float → Float
@@ -44,11 +43,11 @@ unfoldable pub blended_albedo : List Float → ℤ → Four → Float
 blended_albedo rho_eff rho_offset f = interpolate rho_eff 1 rho_offset f 0
 
 -- a channel's density: 0 where the albedo or the radius is outside
-unfoldable pub density_of : List Float → List Float → ℕ → Float → OpticalRadius → Weights → Weights → Float
-density_of profile rho_eff m sigma_t x (At rho_offset f) (At radius_offset g) =
-    max0 (cancelled x (profile_sum profile m rho_offset f radius_offset g) ⊗ sigma_t ⊗ sigma_t ⊘ blended_albedo rho_eff rho_offset f)
-density_of profile rho_eff m sigma_t x (At rho_offset f) Outside = lit 0
-density_of profile rho_eff m sigma_t x Outside w = lit 0
+unfoldable pub density_of : List Float → List Float → ℕ → Float → OpticalRadius → Option Weights → Option Weights → Float
+density_of profile rho_eff m sigma_t x (Some w) (Some v) =
+    max0 (cancelled x (profile_sum profile m w.offset w.four v.offset v.four) ⊗ sigma_t ⊗ sigma_t ⊘ blended_albedo rho_eff w.offset w.four)
+density_of profile rho_eff m sigma_t x (Some w) None = lit 0
+density_of profile rho_eff m sigma_t x None v = lit 0
 
 unfoldable pub density_at : Record → Lists → RGBEnum → Coefficients → WorldRadius → Float
 density_at r t ch c x =
@@ -56,9 +55,8 @@ density_at r t ch c x =
 
 -- ---- the call
 
-unfoldable pub pdf_told : Declared.Density → Answer
-pdf_told (Value v) = value (v ∷ []) []
-pdf_told (Refused number) = refusal number
+unfoldable pub pdf_told : Result Float Refusal → Answer
+pdf_told = told (λ v. value (v ∷ []) [])
 
 -- 1 to 6 and 8; the rows of the channel; then its density
 unfoldable pub pdf_question : Record → RGBEnum → Coefficients → WorldRadius → Lists → Question

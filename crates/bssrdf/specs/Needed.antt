@@ -1,11 +1,10 @@
 -- The rows that a query needs (document 01, "Asking for radiance and density" and "Drawing a radius"): those of nonzero albedo weight, whatever the radius weights are; a channel that is outside needs none.
-use Rattle.std.specs.Prelude.{ℕ, Bool, true, false, cond, ◌&&◌, ◌||◌, List, [], ◌∷◌, ◌++◌, eqb, ℤ, get_or, Float}
+use Rattle.std.specs.Prelude.{ℕ, Bool, true, false, cond, ◌&&◌, ◌||◌, List, [], ◌∷◌, ◌++◌, eqb, ℤ, get_or, Float, Option, Some, None}
 use Rattle.std.specs.Float.Ieee.{eq}
 use Rattle.elementary.specs.Notation.{lit}
 use Rattle.interpolation.specs.Blend.{row_of}
 use Rattle.interpolation.specs.declared.weights.Four.{Four}
 use Rattle.interpolation.specs.declared.weights.Weights.{Weights}
-use Rattle.interpolation.specs.declared.weights.Weights.TheVariants.{At, Outside}
 use Rattle.scattering.specs.Spectrum.{channel}
 use Rattle.scattering.specs.declared.spectrum.RGBEnum.{RGBEnum}
 use Rattle.scattering.specs.declared.spectrum.RGBEnum.TheVariants.{Red, Green, Blue}
@@ -25,14 +24,14 @@ weighted_rows offset f =
     row_if f.w0 (row_of offset 0) (row_if f.w1 (row_of offset 1) (row_if f.w2 (row_of offset 2) (row_if f.w3 (row_of offset 3) [])))
 
 -- by one axis: none where the albedo is outside
-unfoldable pub rows_of : Weights → List ℕ
-rows_of (At offset f) = weighted_rows offset f
-rows_of Outside = []
+unfoldable pub rows_of : Option Weights → List ℕ
+rows_of (Some w) = weighted_rows w.offset w.four
+rows_of None = []
 
 -- by both: none where the albedo or the optical radius is outside
-unfoldable pub rows_of_both : Weights → Weights → List ℕ
-rows_of_both albedo (At offset g) = rows_of albedo
-rows_of_both albedo Outside = []
+unfoldable pub rows_of_both : Option Weights → Option Weights → List ℕ
+rows_of_both albedo (Some w) = rows_of albedo
+rows_of_both albedo None = []
 
 -- ---- the needed rows of each query
 

@@ -1,16 +1,17 @@
 -- The offered call `sr`, of `TabulatedBssrdf` in bssrdf.rs, in its order of operations.
-use Rattle.std.specs.Prelude.{ℕ, ◌+◌, ◌*◌, Bool, cond, false, List, [], ℤ, get_or, Float}
+use Rattle.std.specs.Prelude.{ℕ, ◌+◌, ◌*◌, Bool, cond, false, List, [], ℤ, get_or, Float, Option, Some, None, Result}
 use Rattle.std.specs.Float.{nan, inf}
 use Rattle.std.specs.Float.Ieee.{eq}
 use Rattle.elementary.specs.Notation.{◌⊕◌, ◌⊗◌, ◌⊘◌, lit}
 use Rattle.elementary.specs.Constants.{pi}
-use Rattle.answers.specs.Answer.{Answer, refusal, answered}
-use Rattle.interpolation.specs.Weights.{weight_at}
+use Rattle.answers.specs.Answer.{Answer, answered}
+use Rattle.answers.specs.Refusal.{told}
+use Rattle.answers.specs.declared.refusal.Refusal.{Refusal}
+use Rattle.interpolation.specs.Weights.{weight_at, four_of}
 use Rattle.interpolation.specs.Blend.{row_of, InTable}
 use Rattle.interpolation.specs.Laws.{Reach, Bounded}
 use Rattle.interpolation.specs.declared.weights.Four.{Four}
 use Rattle.interpolation.specs.declared.weights.Weights.{Weights}
-use Rattle.interpolation.specs.declared.weights.Weights.TheVariants.{At, Outside}
 use Rattle.scattering.specs.Literals.{two}
 use Rattle.scattering.specs.Spectrum.{rgb, times, clamp}
 use Rattle.scattering.specs.Exitance.{spectrum_value}
@@ -27,8 +28,6 @@ use Rattle.bssrdf.specs.Question.{Question, posed}
 use Rattle.bssrdf.specs.declared.coefficients.Coefficients.{Coefficients}
 use Rattle.bssrdf.specs.declared.coefficients.WorldRadius.{WorldRadius}
 use Rattle.bssrdf.specs.declared.coefficients.OpticalRadius.{OpticalRadius}
-use Rattle.bssrdf.specs.declared.radiance.Radiance as Declared
-use Rattle.bssrdf.specs.declared.radiance.Radiance.TheVariants.{Value, Refused}
 
 -- `eval_profile`: the entry of the albedo weight i and the radius weight j, in a profile with m radii. Either offset may be -1; the weight of that place is zero, and its entry is not read (`factors_nonzero` of proofs/Products)
 unfoldable pub eval_profile : List Float → ℕ → ℤ → ℤ → ℕ → ℕ → Float
@@ -59,10 +58,10 @@ cancelled x v =
     cond (eq r (lit 0)) v (v ⊘ (two ⊗ pi ⊗ r))
 
 -- a channel in optical units: 0 where the albedo or the radius is outside
-unfoldable pub channel_sr : List Float → ℕ → OpticalRadius → Weights → Weights → Float
-channel_sr profile m x (At rho_offset f) (At radius_offset g) = cancelled x (tensor profile m rho_offset f radius_offset g)
-channel_sr profile m x (At rho_offset f) Outside = lit 0
-channel_sr profile m x Outside w = lit 0
+unfoldable pub channel_sr : List Float → ℕ → OpticalRadius → Option Weights → Option Weights → Float
+channel_sr profile m x (Some w) (Some v) = cancelled x (tensor profile m w.offset w.four v.offset v.four)
+channel_sr profile m x (Some w) None = lit 0
+channel_sr profile m x None v = lit 0
 
 unfoldable pub channel_at : Record → Lists → Coefficients → WorldRadius → RGBEnum → Float
 channel_at r t c x ch = channel_sr t.profile r.m (optical_radius c x ch) (albedo_weights t c ch) (radius_weights t c x ch)
@@ -73,9 +72,8 @@ unclamped r t c x = times (rgb (channel_at r t c x Red) (channel_at r t c x Gree
 
 -- ---- the call
 
-unfoldable pub sr_told : Declared.Radiance → Answer
-sr_told (Value s) = spectrum_value s
-sr_told (Refused number) = refusal number
+unfoldable pub sr_told : Result Spectrum Refusal → Answer
+sr_told = told spectrum_value
 
 -- 1 to 6 and 8; the rows of all three channels; then 12, and the clamp of each channel from 0 on, which keeps a -0
 unfoldable pub sr_question : Record → Coefficients → WorldRadius → Lists → Question
@@ -98,4 +96,5 @@ pub record Readable (profile : List Float) (m i : ℕ) (f : Four) (j : ℕ) (g :
 -- the channel k of three, by what the code has of it on the two axes
 abbrev pub channel_by : List Float → ℕ → OpticalRadius → List Bool → List ℕ → List (List Float) → List ℕ → List (List Float) → ℕ → Float
 channel_by profile m x inside rho_at rho_weights radius_at radius_weights k =
-    channel_sr profile m x (weights_by (get_or inside k false) (get_or rho_at k 0) (get_or rho_weights k [])) (weights_by (get_or inside k false) (get_or radius_at k 0) (get_or radius_weights k []))
+    channel_sr profile m x (weights_by (get_or inside k false) (get_or rho_at k 0) (four_of (get_or rho_weights k [])))
+    (weights_by (get_or inside k false) (get_or radius_at k 0) (four_of (get_or radius_weights k [])))

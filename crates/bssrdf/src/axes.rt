@@ -1,25 +1,17 @@
 // Three channels on the two axes of a table: on each axis an array of three arrays of four weights.
-ghost use Rattle.std.specs.Prelude.{◌≡◌, ℕ, ◌+◌, ◌≤◌, ◌<◌, length, get_or, true, ◌&&◌, [], ◌∷◌};
+ghost use Rattle.std.specs.Prelude.{◌≡◌, ℕ, ◌+◌, ◌≤◌, ◌<◌, length, get_or, ◌&&◌, [], ◌∷◌};
 ghost use Rattle.std.specs.Float.{nan};
 ghost use Rattle.interpolation.specs.Interval.{node_interval};
-ghost use Rattle.interpolation.specs.Nodes.{nodes_ok};
-ghost use Rattle.interpolation.specs.Weights.{four_at, within};
+ghost use Rattle.interpolation.specs.Weights.{four_of, within};
 ghost use Rattle.bssrdf.specs.Coefficients.{optical, mean_free_paths};
-ghost use Rattle.bssrdf.specs.Axes.{three_of, list_of_four, four_of, radius_values, three_weights};
+ghost use Rattle.bssrdf.specs.Axes.{three_of, radius_values, three_weights};
 
 use crate::coefficients::{OpticalRadius, WorldRadius};
-use interpolation::interval::find_interval;
-use interpolation::weights::{Four, four_at, is_within};
+use interpolation::nodes::Nodes;
+use interpolation::weights::{Four, Place, four_at, is_within};
 use scattering::Spectrum;
 
-// The values of the channels on the albedo axis.
-pub fn albedos(rho: Spectrum) -> [f32; 3]
-    ensures { result ≡ rho.r ∷ rho.g ∷ rho.b ∷ [] }
-{
-    [rho.r, rho.g, rho.b]
-}
-
-// Their optical radii.
+// The optical radii of the channels.
 pub fn optical_radii(sigma_t: Spectrum, x: WorldRadius) -> [OpticalRadius; 3]
     ensures { result ≡ optical x sigma_t.r ∷ optical x sigma_t.g ∷ optical x sigma_t.b ∷ [] }
 {
@@ -31,7 +23,7 @@ pub fn optical_radii(sigma_t: Spectrum, x: WorldRadius) -> [OpticalRadius; 3]
 }
 
 // And these as values on the radius axis.
-fn radius_values(xs: [OpticalRadius; 3]) -> [f32; 3]
+pub fn radius_values(xs: [OpticalRadius; 3]) -> [f32; 3]
     ensures { result ≡ radius_values xs }
 {
     [
@@ -49,6 +41,7 @@ pub fn is_inside(rho_samples: &[f32], radius_samples: &[f32], rho: f32, x: Optic
     is_within(rho_samples, rho) & is_within(radius_samples, x.mean_free_paths())
 }
 
+// The same of three channels, whose values stand in arrays of three, as document 01 has them.
 pub fn are_inside(
     rho_samples: &[f32],
     radius_samples: &[f32],
@@ -65,54 +58,6 @@ pub fn are_inside(
     ]
 }
 
-// The interval of each of three values among the nodes.
-pub fn intervals(nodes: &[f32], xs: [f32; 3]) -> [usize; 3]
-    requires sizes { (2 ≤ length nodes.now) × (length nodes.now ≤ 0x8000_0000) }
-    requires accepted { nodes_ok nodes.now ≡ true }
-    ensures { result ≡ three_of (λ k. node_interval nodes.now (get_or xs k nan)) }
-{
-    [
-        find_interval(nodes, xs[0]),
-        find_interval(nodes, xs[1]),
-        find_interval(nodes, xs[2]),
-    ]
-}
-
-// And of each of three optical radii, among the radius nodes.
-pub fn radius_intervals(nodes: &[f32], xs: [OpticalRadius; 3]) -> [usize; 3]
-    requires sizes { (2 ≤ length nodes.now) × (length nodes.now ≤ 0x8000_0000) }
-    requires accepted { nodes_ok nodes.now ≡ true }
-    ensures { result ≡ three_of (λ k. node_interval nodes.now (get_or (radius_values xs) k nan)) }
-{
-    intervals(nodes, radius_values(xs))
-}
-
-// Four weights as an array, and back.
-fn array_of(f: Four) -> [f32; 4]
-    ensures { result ≡ list_of_four f }
-{
-    [f.w0, f.w1, f.w2, f.w3]
-}
-
-pub fn four_of(ws: [f32; 4]) -> Four
-    ensures { result ≡ four_of ws }
-{
-    Four {
-        w0: ws[0],
-        w1: ws[1],
-        w2: ws[2],
-        w3: ws[3],
-    }
-}
-
-// The weights of x in the interval i.
-fn weights_at(nodes: &[f32], x: f32, i: usize) -> [f32; 4]
-    requires { i + 1 < length nodes.now }
-    ensures { result ≡ list_of_four (four_at nodes.now x i) }
-{
-    array_of(four_at(nodes, x, i))
-}
-
 // The weights of three values, each in its interval.
 #[tactic(auto, unfolding(crate::specs::Axes::three_weights))]
 pub fn three_weights(nodes: &[f32], xs: [f32; 3], at: [usize; 3]) -> [[f32; 4]; 3]
@@ -120,16 +65,48 @@ pub fn three_weights(nodes: &[f32], xs: [f32; 3], at: [usize; 3]) -> [[f32; 4]; 
     ensures { result ≡ three_weights nodes.now xs at }
 {
     [
-        weights_at(nodes, xs[0], at[0]),
-        weights_at(nodes, xs[1], at[1]),
-        weights_at(nodes, xs[2], at[2]),
+        four_at(nodes, xs[0], at[0]).into(),
+        four_at(nodes, xs[1], at[1]).into(),
+        four_at(nodes, xs[2], at[2]).into(),
     ]
 }
 
-// And of three optical radii.
-pub fn three_radius_weights(nodes: &[f32], xs: [OpticalRadius; 3], at: [usize; 3]) -> [[f32; 4]; 3]
-    requires { (k : ℕ) → k < 3 → get_or at k 0 + 1 < length nodes.now }
-    ensures { result ≡ three_weights nodes.now (radius_values xs) at }
-{
-    three_weights(nodes, radius_values(xs), at)
+// Where three values lie on an axis: the interval of each, and its four weights. The weights are the
+// array of three arrays of four that document 01 asks for.
+#[derive(Clone, Copy)]
+pub struct Axis {
+    pub at: [usize; 3],
+    pub weights: [[f32; 4]; 3],
+    pub ghost small: { (k : ℕ) → k < 3 → get_or at k 0 ≤ 0x7fff_ffff },
+}
+
+impl Axis {
+    // The three searches come first, so that one does not wait for another's weights.
+    #[inline(always)]
+    #[tactic(auto, using(interpolation::proofs::Bisection::bounding))]
+    pub fn new(nodes: Nodes<'_>, xs: [f32; 3]) -> Axis
+        requires { length nodes.list.now ≤ 0x8000_0000 }
+        ensures at { result.at ≡ three_of (λ k. node_interval nodes.entry.list.now (get_or xs k nan)) }
+        ensures weights { result.weights ≡ three_weights nodes.entry.list.now xs result.at }
+    {
+        let at = [
+            nodes.find_interval(xs[0]),
+            nodes.find_interval(xs[1]),
+            nodes.find_interval(xs[2]),
+        ];
+        let weights = three_weights(nodes.list, xs, at);
+        Axis { at, weights }
+    }
+
+    // The place of the value k.
+    pub fn place(self, k: usize) -> Place
+        requires { k < 3 }
+        ensures interval { result.interval ≡ get_or self.at k 0 }
+        ensures four { result.four ≡ four_of (get_or self.weights k []) }
+    {
+        Place {
+            interval: self.at[k],
+            four: Four::from(self.weights[k]),
+        }
+    }
 }

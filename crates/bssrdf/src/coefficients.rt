@@ -6,7 +6,7 @@ ghost use Rattle.bssrdf.specs.Coefficients as Spec;
 use scattering::{RGBEnum, Spectrum};
 
 // Absorption and scattering by channel: six coefficients.
-#[derive(Clone, Copy)]
+#[derive(Clone, Copy, Debug, PartialEq)]
 pub struct Coefficients {
     pub sigma_a: Spectrum,
     pub sigma_s: Spectrum,
@@ -30,8 +30,7 @@ impl Coefficients {
     pub fn sigma_t(self) -> Spectrum
         ensures { result ≡ Spec.sigma_t self }
     {
-        let sigma_a = self.sigma_a;
-        sigma_a.add(self.sigma_s)
+        self.sigma_a + self.sigma_s
     }
 
     // The albedo of each channel.
@@ -49,22 +48,23 @@ impl Coefficients {
     }
 
     // The albedo of one channel.
+    #[tactic(auto, using(crate::proofs::Channels::channel_rho))]
     pub fn channel_rho(self, ch: RGBEnum) -> f32
         ensures { result ≡ channel (Spec.rho self) ch }
     {
         let sigma_s = self.sigma_s;
         let sigma_t = self.sigma_t();
-        albedo(sigma_s.channel(ch), sigma_t.channel(ch))
+        albedo(sigma_s[ch], sigma_t[ch])
     }
 }
 
 // A distance in the world, in the unit whose inverse the coefficients have.
-#[derive(Clone, Copy)]
+#[derive(Clone, Copy, Debug, PartialEq, PartialOrd)]
 pub struct WorldRadius(pub f32);
 
 // A distance without a unit: in mean free paths. Its field is private, so other modules have one
 // from `WorldRadius::optical` alone.
-#[derive(Clone, Copy)]
+#[derive(Clone, Copy, Debug, PartialEq, PartialOrd)]
 pub struct OpticalRadius(f32);
 
 impl WorldRadius {

@@ -1,41 +1,24 @@
--- `pdf_sr` meets its contract: an accepted table has the places of each row of nonzero weight.
-use Rattle.std.proofs.Common.{sym, arith}
-use Rattle.answers.proofs.Refusals.{nothing}
-use Rattle.bssrdf.proofs.TwoParts.{passing, rows_passed}
-use Rattle.bssrdf.proofs.Cells.{searching, in_rows}
-use Rattle.bssrdf.proofs.OneChannel.{pdf_missing, pdf_inside}
+-- `pdf_sr` meets its contract: what is read of a channel that is inside is there, since the two parts of its checks have passed.
+use Rattle.std.proofs.Common.{sym, ap, ◌∙◌}
+use Rattle.answers.specs.Refusal.{number_of}
+use Rattle.scattering.specs.Spectrum.{channel}
+use Rattle.scattering.specs.declared.spectrum.Spectrum.{Spectrum}
+use Rattle.bssrdf.specs.Coefficients.{optical, mean_free_paths}
 use Rattle.bssrdf.specs.Axes.{optical_radius}
-use Rattle.bssrdf.specs.Density.{pdf_told}
+use Rattle.bssrdf.proofs.AcceptedQueries.{readable}
+use Rattle.bssrdf.proofs.TwoParts.{query_parts, both_pass}
 use Rattle.bssrdf.proofs.density.pdf_sr.Goals as goal
 
-pub inside_density-requires-clause-in_table : goal.inside_density-requires-clause-in_table
-inside_density-requires-clause-in_table c =
-    let p = rows_passed _ _ _ (nothing _ _ c.rows_number-rows.ensures c.if-rows-gt0.false) in (
-      in_rows _ _ _ _ _ _ c.find_interval-i.ensures c.four_at-f.ensures p.two_rows p.profile_fits,
-      grind (arith, searching, passing),
-      grind (arith, searching, passing),
-    )
-
-pub returns-then-not-are_marked : goal.returns-then-not-are_marked
-unfolding pdf_told optical_radius
-returns-then-not-are_marked c = grind (arith, pdf_missing)
-
-pub returns : goal.returns
-unfolding pdf_told optical_radius
-returns c =
-    let inside = rw (c.is_inside.ensures, c.optical-optical.ensures, c.channel-sigma_t.ensures, c.sigma_t-total.ensures, c.channel_rho-rho.ensures) at c.if-not-is_inside.false in
-    let marked = rw (c.are_marked.ensures, c.four_at-f.ensures, c.find_interval-i.ensures, c.channel_rho-rho.ensures) at c.if-not-are_marked.false in
-    rw (
-      c.inside_density.ensures,
-      c.four_at-g.ensures,
-      c.mean_free_paths-2.ensures,
-      c.find_interval-j.ensures,
-      c.mean_free_paths.ensures,
-      c.four_at-f.ensures,
-      c.find_interval-i.ensures,
-      c.optical-optical.ensures,
-      c.channel-sigma_t.ensures,
-      c.sigma_t-total.ensures,
-      c.channel_rho-rho.ensures,
-    )
-    (sym (pdf_inside _ _ _ _ _ (nothing _ _ c.rows_number-rows.ensures c.if-rows-gt0.false) (nothing _ _ c.radii_number-number.ensures c.if-number-gt0.false) inside marked))
+pub invariant_of-cells : goal.invariant_of-cells
+unfolding number_of optical_radius
+invariant_of-cells c =
+    let a = c.args in
+    let sigma = c.index-sigma_t.ensures ∙ ap (λ (s : Spectrum). channel s a.ch) c.sigma_t-total.ensures in
+    let b = c.mean_free_paths.ensures ∙ ap mean_free_paths (c.optical-optical.ensures ∙ ap (optical a.x) sigma) in
+    record {
+      readable = readable _ _ a.c (both_pass (query_parts _ _ a.c) (sym c.in_ok-rho_nodes.ensures.number) (sym c.in_ok-radius_nodes.ensures.number))
+          (record { rho = c.in_ok-rho_nodes.ensures.held; radii = c.in_ok-radius_nodes.ensures.held })
+          a.x a.ch (ap (λ l. l.now) c.in_ok-rho_nodes.ensures.same) (ap (λ l. l.now) c.in_ok-radius_nodes.ensures.same) c.channel_rho-albedo.ensures b
+          (rw c.mean_free_paths.ensures (sym c.is_inside.ensures ∙ c.if-not-is_inside.false))
+          c.place-rho.ensures.interval c.place-rho.ensures.four c.place.ensures.interval c.place.ensures.four;
+    }
