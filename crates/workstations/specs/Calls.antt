@@ -1,6 +1,8 @@
 -- What a call does, and what a list of calls does: each is given the start's record, and the six lists as the call before left them (document 01, "Drawing a radius").
-use Rattle.std.specs.Prelude.{ℕ, List, [], ◌∷◌, Float}
-use Rattle.answers.specs.Answer.{Answer, refusal, value}
+use Rattle.std.specs.Prelude.{ℕ, List, [], ◌∷◌, Result, Float}
+use Rattle.answers.specs.Answer.{Answer, value}
+use Rattle.answers.specs.Refusal.{told as told_by}
+use Rattle.answers.specs.declared.refusal.Refusal.{Refusal}
 use Rattle.scattering.specs.Exitance.{spectrum_value}
 use Rattle.scattering.specs.declared.spectrum.RGBEnum.{RGBEnum}
 use Rattle.table.specs.Parameters.{Lists, Effect, effect, done}
@@ -14,7 +16,7 @@ use Rattle.bssrdf.specs.declared.coefficients.Coefficients.{Coefficients}
 use Rattle.bssrdf.specs.declared.coefficients.WorldRadius.{WorldRadius}
 use Rattle.workstations.specs.declared.calls.Query.{Query as DeclaredQuery}
 use Rattle.workstations.specs.declared.calls.Call.{Call as DeclaredCall}
-use Rattle.workstations.specs.declared.calls.Answer.{Answer as DeclaredAnswer}
+use Rattle.workstations.specs.declared.calls.Reply.{Reply}
 
 -- a query with its arguments
 pub data Query : Type 0 where
@@ -62,11 +64,7 @@ run r t (c ∷ cs) =
     let rest = run r first.lists cs in
     record { answers = first.answer ∷ rest.answers; lists = rest.lists }
 
--- how many calls are made at once
-abbrev pub batch : ℕ
-batch = 16
-
--- ---- what the code's queries, calls and answers stand for, case by case
+-- ---- what the code's queries, calls and replies stand for, case by case
 
 unfoldable pub query_of : DeclaredQuery → Query
 query_of (DeclaredQuery.Sr c x) = Sr c x
@@ -77,9 +75,12 @@ unfoldable pub call_of : DeclaredCall → Call
 call_of (DeclaredCall.Build i) = Build i
 call_of (DeclaredCall.Ask q) = Ask (query_of q)
 
-unfoldable pub told : DeclaredAnswer → Answer
-told DeclaredAnswer.Done = done
-told (DeclaredAnswer.Radiance s) = spectrum_value s
-told (DeclaredAnswer.Density v) = value (v ∷ []) []
-told (DeclaredAnswer.Drawn radius rounds) = drawn_value radius rounds
-told (DeclaredAnswer.Refused number) = refusal number
+unfoldable pub reply_value : Reply → Answer
+reply_value Reply.Done = done
+reply_value (Reply.Radiance s) = spectrum_value s
+reply_value (Reply.Density v) = value (v ∷ []) []
+reply_value (Reply.Drawn d) = drawn_value d.radius d.rounds
+
+-- what a call answers: its reply, or the refusal
+unfoldable pub told : Result Reply Refusal → Answer
+told = told_by reply_value

@@ -1,4 +1,5 @@
 // The calls that follow a start, and what they answer.
+use bssrdf::Drawn;
 use bssrdf::coefficients::{Coefficients, WorldRadius};
 use scattering::{RGBEnum, Spectrum};
 
@@ -17,12 +18,11 @@ pub enum Call {
     Ask(Query),
 }
 
-// What a call answers: that a row is built, the value of a query, or a refusal's number.
+// What a call answers where it is not refused: that a row is built, or the value of a query.
 #[derive(Clone, Copy)]
-pub enum Answer {
+pub enum Reply {
     Done,
     Radiance(Spectrum),
     Density(f32),
-    Drawn(f32, u32),
-    Refused(u32),
+    Drawn(Drawn),
 }

@@ -6,5 +6,5 @@ pub mod calls;
 pub mod claim;
 pub mod making;
 
-pub use calls::{Answer, Call, Query};
-pub use making::{BATCH, ask, make, step};
+pub use calls::{Call, Query, Reply};
+pub use making::{ask, make, step};

@@ -13,6 +13,7 @@ use Rattle.elementary.specs.Units.{mag}
 use Rattle.elementary.specs.Sign.{abs, max0}
 use Rattle.elementary.specs.Exponential.{terms, squared, series, exp}
 use Rattle.answers.specs.Answer.{Answer, answered, written}
+use Rattle.answers.specs.Refusal.{told}
 use Rattle.answers.specs.Checks.{first_of}
 use Rattle.interpolation.specs.Interval.{bisect, find_interval, at_most, node_interval}
 use Rattle.interpolation.specs.Nodes.{finite, all_below, all_finite, increasing, nodes_ok}
@@ -45,7 +46,7 @@ use Rattle.bssrdf.specs.Checks.{coefficient_ok, check8, check11, check12, query_
 use Rattle.bssrdf.specs.Question.{posed}
 use Rattle.bssrdf.specs.Radiance.{eval_profile, add_product, add_cell, tensor, cancelled, channel_sr, channel_at, unclamped, sr_question}
 use Rattle.bssrdf.specs.Density.{density_of, density_at, pdf_question}
-use Rattle.bssrdf.specs.Drawing.{drawn_value, divided, drawn_at, sample_question}
+use Rattle.bssrdf.specs.Drawing.{drawn_value, divided, divided_value, drawn_at, sample_question}
 use Rattle.workstations.specs.Calls.{Sr, SampleSr, Call, Build, Ask, question, ask, step}
 use Rattle.workstations.specs.Tally.{StartOf, next, rows_after, answers_from, rows_built, tallied}
 use Rattle.workstations_examples.specs.Examples.{three, white, near, only_row2, table_of_row2, mixed, mixed_answers, starting, OnRow2, Examples}
@@ -112,7 +113,7 @@ unfolding on_row_2 tensor add_cell add_product eval_profile cancelled
 read_radiance = refl
 
 read_drawn : drawn (table_by row) ≡ drawn_value (lit 0x3ae7_b46a) 1
-unfolding on_row_2 sample_catmull_rom_2d draw_from segment_at Sample.drawn interpolate add_row blend_interval blend_at_most width slope_before slope_after solve solve_from round_of bounded_by first_guess integral_at value_at stops divided segment_integral running_sum sum_to abs max0 sqrt root_of digits mag
+unfolding on_row_2 told sample_catmull_rom_2d draw_from Sample.draw segment_at Sample.drawn interpolate add_row blend_interval blend_at_most width slope_before slope_after solve solve_from round_of bounded_by first_guess integral_at value_at stops divided divided_value segment_integral running_sum sum_to abs max0 sqrt root_of digits mag
 read_drawn = refl
 
 white_radiance : radiance table_of_row2 ≡ spectrum_value (uniform (lit 0x4138_a29c))

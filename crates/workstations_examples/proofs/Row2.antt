@@ -17,7 +17,7 @@ use Rattle.scattering.specs.Clamp.{clamp_t}
 use Rattle.scattering.specs.Samples.{n_samples, sample_ln, distance}
 use Rattle.scattering.specs.Moments.{fresnel_moment1, fresnel_moment2}
 use Rattle.scattering.specs.Phase.{denom, phase_hg}
-use Rattle.scattering.specs.Fresnel.{swapped, complement, sin_theta_i, sin_theta_t, cos_theta_t, reflectance, reflected, fr_dielectric}
+use Rattle.scattering.specs.Fresnel.{swapped, complement, snell, sin_theta_i, sin_theta_t, cos_theta_t, reflectance_at, reflectance, reflected_at, reflected, fr_dielectric}
 use Rattle.scattering.specs.Single.{ss_term, ss_addend, beam_diffusion_ss}
 use Rattle.scattering.specs.Multiple.{dipole, ms_term, ms_addend, beam_diffusion_ms}
 use Rattle.table.specs.Nodes.{«0·0025», radius_sample, radius_samples, rho_sample, rho_samples}
@@ -30,7 +30,7 @@ use Rattle.workstations_examples.specs.Examples.{three, table_of_row2}
 -- ---- the two sums, at albedo 1, at each radius node
 
 single_0 : beam_diffusion_ss one (lit 0) (lit 0) two (lit 0) ≡ lit 0x4207_ebc8
-unfolding beam_diffusion_ss ss_addend ss_term n_samples sample_ln distance phase_hg denom fr_dielectric reflected reflectance cos_theta_t sin_theta_t sin_theta_i complement swapped clamp_t sum_to ln ln_series odds exp series terms squared rounded sqrt root_of digits mag abs max0 is_nan lt le neg sub add mul div of_int of_bits
+unfolding beam_diffusion_ss ss_addend ss_term n_samples sample_ln distance phase_hg denom fr_dielectric reflected reflected_at reflectance reflectance_at cos_theta_t snell sin_theta_t sin_theta_i complement swapped clamp_t sum_to ln ln_series odds exp series terms squared rounded sqrt root_of digits mag abs max0 is_nan lt le neg sub add mul div of_int of_bits
 single_0 = refl
 
 single_1 : beam_diffusion_ss one (lit 0) (lit 0) two «0·0025» ≡ lit 0x4134_fabc
