@@ -8,10 +8,11 @@ use lib.IntN.{pos}
 use lib.ListN.{length, set}
 use lib.Ieee.{Float}
 use Rattle.answers.specs.Answer.{answered}
-use Rattle.interpolation.specs.Own.{weights_value, weights, sample_told, sample2d}
+use Rattle.answers.specs.Refusal.{number, told}
+use Rattle.interpolation.specs.Own.{weights_value, weights, sample_value, sample_told, sample2d}
 use Rattle.interpolation.specs.Weights.{catmull_rom_weights}
 use Rattle.interpolation.specs.declared.weights.Weights.{Weights}
-use Rattle.interpolation.specs.declared.weights.Weights.TheVariants.{At, Outside}
+use Rattle.std.specs.Prelude.{Option, Some, None}
 use Rattle.interpolation.proofs.Draws.{of_draw}
 use Rattle.scattering.specs.declared.spectrum.RGBEnum.{RGBEnum}
 use Rattle.table.specs.Parameters.{Lists}
@@ -25,10 +26,10 @@ use Rattle.gauzespar.proofs.Replies.{Numbered, numbered}
 
 -- ---- the weights refuse nothing
 
-by_value : (w : Weights) → Numbered (weights_value w)
+by_value : (w : Option Weights) → Numbered (weights_value w)
 unfolding weights_value answered
-by_value (At offset f) = refl
-by_value Outside = refl
+by_value (Some w) = refl
+by_value None = refl
 
 pub numbered_weights : (nodes : List Float) (x : Float) → Numbered (weights nodes x)
 unfolding weights
@@ -37,8 +38,8 @@ numbered_weights nodes x = numbered _ _ (by_value (catmull_rom_weights nodes x))
 -- ---- draws
 
 pub numbered_sample : (nodes1 nodes2 values cdf : List Float) (alpha u : Float) (allowance : ℕ) → Numbered (sample2d nodes1 nodes2 values cdf alpha u allowance)
-unfolding sample2d sample_told answered
-numbered_sample nodes1 nodes2 values cdf alpha u allowance = numbered _ _ (of_draw (λ s. Numbered (sample_told s)) (λ p v d n. refl) refl refl nodes1 nodes2 values cdf alpha u allowance)
+unfolding sample2d sample_told sample_value told number answered
+numbered_sample nodes1 nodes2 values cdf alpha u allowance = numbered _ _ (of_draw (λ s. Numbered (sample_told s)) (λ s. refl) refl refl nodes1 nodes2 values cdf alpha u allowance)
 
 numbered_drawn : (t : Lists) (ch : RGBEnum) (c : Coefficients) (u : Float) (allowance : ℕ) → Numbered (drawn_at t ch c u allowance)
 unfolding answered

@@ -11,7 +11,9 @@ use Rattle.answers.specs.Answer.{Answer, refusal, value, answered, written}
 use Rattle.answers.specs.Checks.{first_of}
 use Rattle.gauzespar.specs.Outputs.{Tells, over, wholes, fitted}
 use Rattle.gauzespar.specs.Calls.{in_channel, no_channel}
+use Rattle.scattering.specs.Spectrum.{channel_number}
 use Rattle.scattering.specs.declared.spectrum.RGBEnum.{RGBEnum}
+use Rattle.scattering.specs.declared.spectrum.RGBEnum.TheVariants.{Red, Green, Blue}
 
 -- ---- a value
 
@@ -124,6 +126,13 @@ kept_channel {channel = zero} call h = absurd (omega arith)
 kept_channel {channel = suc zero} call h = absurd (omega arith)
 kept_channel {channel = suc (suc zero)} call h = absurd (omega arith)
 kept_channel {channel = suc (suc (suc k))} call h = kept 100 (omega arith)
+
+-- the call in the channel that a number has
+pub numbered_channel : (n : ℕ) (ch : RGBEnum) (call : RGBEnum → Answer) → channel_number ch ≡ n → in_channel n call ≡ call ch
+unfolding in_channel channel_number
+numbered_channel n Red call e = rw (← e)
+numbered_channel n Green call e = rw (← e)
+numbered_channel n Blue call e = rw (← e)
 
 pub kept_same : {y : ℕ} {a b : Answer} → b ≡ a → Kept y a → Kept y b
 kept_same {y = y} e k = subst⁻¹ (λ (a : Answer). Kept y a) e k

@@ -1,37 +1,39 @@
 // What the calls give.
-#![tactic(auto, unfolding(answers::specs::Checks::first_of))]
-
-ghost use Rattle.std.specs.Prelude.{◌≡◌, [], ◌∷◌, length};
+ghost use Rattle.std.specs.Prelude.{◌≡◌, [], ◌∷◌};
 ghost use Rattle.answers.specs.Checks.{first_of};
+ghost use Rattle.answers.specs.Refusal.{number, number_of};
 ghost use Rattle.interpolation.specs.Checks.{check1, check2};
 
+use answers::Refusal;
 use interpolation::checks::{check_radii, check_rows};
 
-// The number of an output list of the wrong length: that of the checks before 5, or 5.
-pub fn number_or_5(before: u32) -> u32
-    ensures { result ≡ first_of (before ∷ 5 ∷ []) }
+// What a call returns: 0, or the number of its refusal.
+#[tactic(auto, unfolding(answers::specs::Refusal::number_of))]
+pub fn told(answer: Result<(), Refusal>) -> u32
+    ensures { result ≡ number_of answer }
 {
-    if before > 0 { before } else { 5 }
+    match answer {
+        Ok(()) => 0,
+        Err(refusal) => u32::from(refusal),
+    }
+}
+
+// The refusal of an output list of the wrong length: that of the checks before 5, or 5.
+#[tactic(auto, using(answers::proofs::Results::checking), unfolding(answers::specs::Refusal::number, answers::specs::Refusal::number_of, answers::specs::Checks::first_of))]
+pub fn misfit(before: Result<(), Refusal>) -> Refusal
+    ensures { number result ≡ first_of (number_of before ∷ 5 ∷ []) }
+{
+    match before {
+        Ok(()) => Refusal::Length,
+        Err(refusal) => refusal,
+    }
 }
 
 // 1 and 2, by the lengths of two node lists.
-pub fn sizes_number(n: usize, m: usize) -> u32
-    ensures { result ≡ first_of (check1 n ∷ check2 m ∷ []) }
+#[tactic(auto, using(answers::proofs::Results::checking), unfolding(answers::specs::Refusal::number_of))]
+pub fn check_sizes(n: usize, m: usize) -> Result<(), Refusal>
+    ensures { number_of result ≡ first_of (check1 n ∷ check2 m ∷ []) }
 {
-    let rows = check_rows(n);
-    if rows > 0 {
-        return rows;
-    }
+    check_rows(n)?;
     check_radii(m)
-}
-
-// Writes the values over a list that is as long.
-pub fn put(list: &mut [f32], values: &[f32])
-    requires { length list.old ≡ length values.now }
-    ensures { list.new ≡ values.now }
-{
-    let n = list.len();
-    for i in 0..n {
-        list[i] = values[i];
-    }
 }

@@ -7,7 +7,8 @@ ghost use Rattle.table.specs.Parameters.{record_of, lists, effect, done};
 ghost use Rattle.table.specs.Starting as Starting;
 ghost use Rattle.table.specs.Building as Building;
 
-use table::{Outcome, Record};
+use crate::outputs::told;
+use table::{Lent, Record, TableMut};
 
 // Starts a table, whatever its lists hold. Refusals: 1 to 5.
 #[unsafe(no_mangle)]
@@ -26,19 +27,15 @@ pub extern "C" fn gauzespar_start(
     ensures { effect (answered result done) (lists rho_samples.new radius_samples.new profile.new rho_eff.new profile_cdf.new marks.new)
         ≡ Starting.start (record_of n m g eta) (lists rho_samples.old radius_samples.old profile.old rho_eff.old profile_cdf.old marks.old) }
 {
-    let r = Record { n, m, g, eta };
-    match table::start(
-        r,
+    let mut lists = Lent {
         rho_samples,
         radius_samples,
         profile,
         rho_eff,
         profile_cdf,
         marks,
-    ) {
-        Outcome::Done => 0,
-        Outcome::Refused(number) => number,
-    }
+    };
+    told(table::start(Record { n, m, g, eta }, &mut lists))
 }
 
 // Builds a row. Refusals: 1 to 7.
@@ -59,18 +56,14 @@ pub extern "C" fn gauzespar_build(
     ensures { effect (answered result done) (lists rho_samples.now radius_samples.now profile.new rho_eff.new profile_cdf.new marks.new)
         ≡ Building.build (record_of n m g eta) row (lists rho_samples.now radius_samples.now profile.old rho_eff.old profile_cdf.old marks.old) }
 {
-    let r = Record { n, m, g, eta };
-    match table::build(
-        r,
-        row,
+    let mut t = TableMut {
+        record: Record { n, m, g, eta },
         rho_samples,
         radius_samples,
         profile,
         rho_eff,
         profile_cdf,
         marks,
-    ) {
-        Outcome::Done => 0,
-        Outcome::Refused(number) => number,
-    }
+    };
+    told(table::build(&mut t, row))
 }
