@@ -4,50 +4,39 @@
 #![tactic(auto)]
 
 use std::io;
-use words::{Form, Line, Numbers, Output};
+use words::{Failure, Line, Malformed, Output};
 
+// What a function gives.
 #[derive(Clone, Copy)]
-enum Ask {
-    Abs,
-    Max0,
-    Widen,
-    Narrow,
-    Sqrt,
-    Exp,
-    Ln,
+enum Value {
+    Float(f32),
+    Double(f64),
 }
 
-static LINES: [Form<Ask>; 7] = [
-    ("a", "b", Ask::Abs),
-    ("m", "b", Ask::Max0),
-    ("w", "b", Ask::Widen),
-    ("n", "l", Ask::Narrow),
-    ("q", "b", Ask::Sqrt),
-    ("e", "b", Ask::Exp),
-    ("l", "b", Ask::Ln),
-];
-
-fn result(ask: Ask, n: &Numbers, out: &mut Output) {
-    let x = n.float(0);
-    let y = match ask {
-        Ask::Widen => return out.long_bits(elementary::double_to_bits(elementary::widen(x))),
-        Ask::Narrow => elementary::narrow(elementary::bits_to_double(n.long(0))),
-        Ask::Abs => elementary::abs(x),
-        Ask::Max0 => elementary::max0(x),
-        Ask::Sqrt => elementary::sqrt(x),
-        Ask::Exp => elementary::exp(x),
-        Ask::Ln => elementary::ln(x),
+fn result(line: &[u8]) -> Result<Value, Malformed> {
+    let mut line = Line::new(line);
+    let value = match line.word()? {
+        b"a" => Value::Float(elementary::abs(line.float()?)),
+        b"m" => Value::Float(elementary::max0(line.float()?)),
+        b"w" => Value::Double(elementary::widen(line.float()?)),
+        b"n" => Value::Float(elementary::narrow(line.double()?)),
+        b"q" => Value::Float(elementary::sqrt(line.float()?)),
+        b"e" => Value::Float(elementary::exp(line.float()?)),
+        b"l" => Value::Float(elementary::ln(line.float()?)),
+        _ => return Err(Malformed),
     };
-    out.floats(&[y])
+    line.end()?;
+    Ok(value)
 }
 
-fn answer(line: &[u8], out: &mut Output) -> bool {
-    let Some(Line { ask, numbers }) = words::read(line, &LINES) else {
-        return false;
-    };
-    out.text(line);
-    result(ask, &numbers, out);
-    true
+fn answer(line: &[u8], out: &mut Output) -> Result<(), Failure> {
+    let value = result(line)?;
+    out.bytes(line)?;
+    match value {
+        Value::Float(x) => out.entries(&[x])?,
+        Value::Double(x) => out.long_bits(elementary::double_to_bits(x))?,
+    }
+    Ok(())
 }
 
 fn main(rt: HostRuntime) -> io::Result<()> {

@@ -9,8 +9,9 @@ impl Hash {
 
     // Joins the four bytes of a word, the lowest first.
     pub fn join(&mut self, word: u32) {
-        for byte in word.to_le_bytes() {
-            self.0 = (self.0 ^ u64::from(byte)).wrapping_mul(0x100_0000_01b3);
-        }
+        let bytes = word.to_le_bytes();
+        self.0 = bytes.iter().fold(self.0, |hash, byte| {
+            (hash ^ u64::from(*byte)).wrapping_mul(0x100_0000_01b3)
+        });
     }
 }

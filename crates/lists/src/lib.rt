@@ -2,9 +2,11 @@
 // lengths, store entries, and show or hash them.
 #![tactic(auto)]
 
-pub mod answers;
 pub mod hash;
+pub mod lines;
 pub mod list;
+pub mod name;
 
-pub use answers::{Ask, Lent, Lists, Own};
-pub use list::{Entry, List};
+pub use lines::{Lists, Own};
+pub use list::{AnyList, List};
+pub use name::{LENT, Name, OWN};

@@ -1,43 +1,8 @@
-// A list: its capacity's room, and its length. What lies beyond the length stays as it is.
+// A list: its capacity's room, and its length. What lies beyond the length stays as it is, and the
+// memory is fixed, so the room is an array beside a length and no `Vec`.
 use crate::hash::Hash;
-use words::Output;
-
-// What a list has entries of. Each is given and shown as a word.
-pub trait Entry: Copy + Drop {
-    fn is_word(word: u64) -> bool;
-
-    fn from_word(word: u64) -> Self;
-
-    fn word(self) -> u32;
-}
-
-impl Entry for f32 {
-    fn is_word(word: u64) -> bool {
-        word <= 0xffff_ffff
-    }
-
-    fn from_word(word: u64) -> f32 {
-        elementary::bits_to_float((word & 0xffff_ffff) as u32)
-    }
-
-    fn word(self) -> u32 {
-        elementary::float_to_bits(self)
-    }
-}
-
-impl Entry for u8 {
-    fn is_word(word: u64) -> bool {
-        word <= 255
-    }
-
-    fn from_word(word: u64) -> u8 {
-        (word & 255) as u8
-    }
-
-    fn word(self) -> u32 {
-        u32::from(self)
-    }
-}
+use std::io;
+use words::{Entry, Line, Malformed, Output};
 
 #[derive(Drop)]
 pub struct List<T, const N: usize> {
@@ -53,60 +18,123 @@ impl<T: Entry, const N: usize> List<T, N> {
         }
     }
 
-    pub fn set_len(&mut self, len: u32) {
-        self.len = len;
-    }
-
-    pub fn used(&self) -> &[T] {
-        let n = N.min(self.len as usize);
-        &self.room[..n]
-    }
-
     pub fn used_mut(&mut self) -> &mut [T] {
         let n = N.min(self.len as usize);
         &mut self.room[..n]
     }
 
-    // Stores words from a place on, if they end within the capacity and each is an entry's: whether
-    // it does.
-    pub fn put(&mut self, from: usize, words: &[u64]) -> bool {
-        let room = &mut self.room[..];
-        if from > room.len() || words.len() > room.len() - from {
-            return false;
+    pub fn whole(&mut self) -> Whole<'_, T> {
+        Whole {
+            room: &mut self.room[..],
+            len: &mut self.len,
         }
-        if !words.iter().all(|word| T::is_word(*word)) {
-            return false;
-        }
-        for (place, word) in room[from..].iter_mut().zip(words) {
-            *place = T::from_word(*word);
-        }
-        true
+    }
+}
+
+// A list of any capacity.
+#[derive(Drop)]
+pub struct Whole<'a, T> {
+    room: &'a mut [T],
+    len: &'a mut u32,
+}
+
+impl<'a, T: Entry> Whole<'a, T> {
+    fn used(&self) -> &[T] {
+        let n = self.room.len().min(*self.len as usize);
+        &self.room[..n]
     }
 
-    // Fills the whole capacity, if the word is an entry's: whether it does.
-    pub fn fill(&mut self, word: u64) -> bool {
-        if !T::is_word(word) {
-            return false;
+    fn check_len(&self, len: u32) -> Result<(), Malformed> {
+        if len as usize <= self.room.len() {
+            Ok(())
+        } else {
+            Err(Malformed)
         }
+    }
+
+    fn set_len(&mut self, len: u32) {
+        *self.len = len;
+    }
+
+    // Stores entries from a place on, if they end within the capacity.
+    fn put(&mut self, from: usize, entries: &[T]) -> Result<(), Malformed> {
+        let after = self.room.get_mut(from..).ok_or(Malformed)?;
+        let places = after.get_mut(..entries.len()).ok_or(Malformed)?;
+        places.copy_from_slice(entries);
+        Ok(())
+    }
+
+    // Fills the whole capacity. By hand, since std's `fill` at a type parameter asks that no clone can
+    // fail.
+    fn fill(&mut self, entry: T) {
         for place in self.room.iter_mut() {
-            *place = T::from_word(word);
+            *place = entry;
         }
-        true
     }
 
     // Writes the length and the entries.
-    pub fn show(&self, out: &mut Output) {
-        out.int(self.len);
-        for x in self.used() {
-            out.bits(x.word());
-        }
+    fn show(&mut self, out: &mut Output) -> io::Result<()> {
+        out.int(*self.len)?;
+        out.entries(self.used())
     }
 
     // Joins the length and the entries to a hash.
-    pub fn join(&self, hash: &mut Hash) {
-        hash.join(self.len);
+    fn join(&mut self, hash: &mut Hash) {
+        hash.join(*self.len);
         for x in self.used() {
-            hash.join(x.word());
+            hash.join(x.bits());
+        }
+    }
+}
+
+// A list of any capacity and any entries.
+#[derive(Drop)]
+pub enum AnyList<'a> {
+    Floats(Whole<'a, f32>),
+    Bytes(Whole<'a, u8>),
+}
+
+impl<'a> AnyList<'a> {
+    pub fn check_len(&mut self, len: u32) -> Result<(), Malformed> {
+        match self {
+            AnyList::Floats(list) => list.check_len(len),
+            AnyList::Bytes(list) => list.check_len(len),
+        }
+    }
+
+    pub fn set_len(&mut self, len: u32) {
+        match self {
+            AnyList::Floats(list) => list.set_len(len),
+            AnyList::Bytes(list) => list.set_len(len),
+        }
+    }
+
+    pub fn put(&mut self, from: usize, line: Line<'_>) -> Result<(), Malformed> {
+        match self {
+            AnyList::Floats(list) => list.put(from, line.entries()?.as_slice()),
+            AnyList::Bytes(list) => list.put(from, line.entries()?.as_slice()),
+        }
+    }
+
+    pub fn fill(&mut self, line: Line<'_>) -> Result<(), Malformed> {
+        match self {
+            AnyList::Floats(list) => list.fill(line.last()?),
+            AnyList::Bytes(list) => list.fill(line.last()?),
+        }
+        Ok(())
+    }
+
+    pub fn show(&mut self, out: &mut Output) -> io::Result<()> {
+        match self {
+            AnyList::Floats(list) => list.show(out),
+            AnyList::Bytes(list) => list.show(out),
+        }
+    }
+
+    pub fn join(&mut self, hash: &mut Hash) {
+        match self {
+            AnyList::Floats(list) => list.join(hash),
+            AnyList::Bytes(list) => list.join(hash),
         }
     }
 }

@@ -1,47 +1,42 @@
 // The calls on no list, and the answers that several calls have.
-use scattering::SwAnswer;
-use words::{Numbers, Output};
+use answers::Refusal;
+use std::io;
+use words::{Failure, Line, Malformed, Output};
 
-#[derive(Clone, Copy)]
-pub enum Ask {
-    Sw,
-    Q,
-    E,
-    L,
+pub fn refused(refusal: Refusal, out: &mut Output) -> io::Result<()> {
+    out.text("refused")?;
+    out.int(u32::from(refusal))
 }
 
-pub fn refused(k: u32, out: &mut Output) {
-    out.text(b"refused");
-    out.int(k);
+pub fn value(xs: &[f32], out: &mut Output) -> io::Result<()> {
+    out.text("value")?;
+    out.entries(xs)
 }
 
-pub fn value(xs: &[f32], out: &mut Output) {
-    out.text(b"value");
-    out.floats(xs);
-}
-
-fn sw(eta: f32, cosine: f32, out: &mut Output) {
+pub fn sw(mut line: Line<'_>, out: &mut Output) -> Result<(), Failure> {
+    let [eta, cosine] = line.floats::<2>()?;
+    line.end()?;
     match scattering::sw(eta, cosine) {
-        SwAnswer::Value(s) => value(&[s.r, s.g, s.b], out),
-        SwAnswer::Refused(k) => refused(k, out),
+        Ok(s) => value(&<[f32; 3]>::from(s), out)?,
+        Err(refusal) => refused(refusal, out)?,
     }
+    Ok(())
 }
 
-// L, which document 01 has at normal numbers between 0 and 1: whether the bits are of one.
-fn ln(bits: u32, out: &mut Output) -> bool {
-    let is_normal = (0x0080_0000 <= bits) & (bits < 0x3f80_0000);
-    if is_normal {
-        value(&[elementary::ln(elementary::bits_to_float(bits))], out);
-    }
-    is_normal
+// A function of one float.
+pub fn of_one<F: FnOnce(f32) -> f32>(line: Line<'_>, out: &mut Output, f: F) -> Result<(), Failure>
+    requires { F.IsAlwaysCallable f }
+{
+    let x = line.last()?;
+    Ok(value(&[f(x)], out)?)
 }
 
-pub fn answer(ask: Ask, n: &Numbers, out: &mut Output) -> bool {
-    match ask {
-        Ask::Sw => sw(n.float(0), n.float(1), out),
-        Ask::Q => value(&[elementary::sqrt(n.float(0))], out),
-        Ask::E => value(&[elementary::exp(n.float(0))], out),
-        Ask::L => return ln(n.int(0), out),
+// L, which document 01 has at normal numbers between 0 and 1.
+pub fn ln(line: Line<'_>, out: &mut Output) -> Result<(), Failure> {
+    let bits: u32 = line.last()?;
+    if !(0x0080_0000..0x3f80_0000).contains(&bits) {
+        return Err(Failure::Line(Malformed));
     }
-    true
+    let x = elementary::bits_to_float(bits);
+    Ok(value(&[elementary::ln(x)], out)?)
 }

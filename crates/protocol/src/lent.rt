@@ -1,107 +1,106 @@
 // The calls on the six lists that a table lends.
 use crate::free::{refused, value};
 use bssrdf::{Coefficients, WorldRadius};
-use lists::{Lent, Lists};
+use lists::Lists;
 use scattering::{RGBEnum, Spectrum};
-use table::{Outcome, Record};
-use words::{Numbers, Output};
-use workstations::{Answer, Call, Query};
+use std::io;
+use table::Record;
+use words::{Failure, Line, Malformed, Output};
+use workstations::{Call, Query, Reply};
 
-#[derive(Clone, Copy)]
-pub enum Ask {
-    Start,
-    Build,
-    Sr,
-    Pdf,
-    Draw,
+// ---- arguments
+
+fn record(line: &mut Line<'_>) -> Result<Record, Malformed> {
+    let n = line.size()?;
+    let m = line.size()?;
+    let [g, eta] = line.floats::<2>()?;
+    Ok(Record::new(n, m, g, eta))
 }
 
-// ---- arguments, in the order of a line's numbers
-
-fn record(n: &Numbers) -> Record {
-    Record::new(n.size(0), n.size(1), n.float(2), n.float(3))
+fn spectrum(line: &mut Line<'_>) -> Result<Spectrum, Malformed> {
+    let [r, g, b] = line.floats::<3>()?;
+    Ok(Spectrum::rgb(r, g, b))
 }
 
-fn coefficients(n: &Numbers) -> Coefficients {
-    Coefficients {
-        sigma_a: Spectrum::rgb(n.float(4), n.float(5), n.float(6)),
-        sigma_s: Spectrum::rgb(n.float(7), n.float(8), n.float(9)),
-    }
+fn coefficients(line: &mut Line<'_>) -> Result<Coefficients, Malformed> {
+    let sigma_a = spectrum(line)?;
+    let sigma_s = spectrum(line)?;
+    Ok(Coefficients { sigma_a, sigma_s })
 }
 
-fn channel(number: u32) -> RGBEnum {
-    match number {
-        0 => RGBEnum::Red,
-        1 => RGBEnum::Green,
-        _ => RGBEnum::Blue,
-    }
-}
-
-fn query(ask: Ask, n: &Numbers) -> Query {
-    let c = coefficients(n);
-    match ask {
-        Ask::Pdf => Query::PdfSr(channel(n.int(10)), c, WorldRadius(n.float(11))),
-        Ask::Draw => Query::SampleSr(channel(n.int(10)), c, n.float(11), n.int(12)),
-        _ => Query::Sr(c, WorldRadius(n.float(10))),
-    }
+fn channel(line: &mut Line<'_>) -> Result<RGBEnum, Malformed> {
+    RGBEnum::try_from(line.int()?).map_err(|_| Malformed)
 }
 
 // ---- answers
 
-fn drawn(radius: f32, rounds: u32, out: &mut Output) {
-    value(&[radius], out);
-    out.int(rounds);
+fn drawn(radius: f32, rounds: u32, out: &mut Output) -> io::Result<()> {
+    value(&[radius], out)?;
+    out.int(rounds)
 }
 
-fn tell(answer: Answer, out: &mut Output) {
-    match answer {
-        Answer::Done => out.text(b"done"),
-        Answer::Radiance(s) => value(&[s.r, s.g, s.b], out),
-        Answer::Density(density) => value(&[density], out),
-        Answer::Drawn(radius, rounds) => drawn(radius, rounds, out),
-        Answer::Refused(k) => refused(k, out),
-    }
-}
-
-fn tell_outcome(outcome: Outcome, out: &mut Output) {
-    match outcome {
-        Outcome::Done => out.text(b"done"),
-        Outcome::Refused(k) => refused(k, out),
+fn tell(reply: Reply, out: &mut Output) -> io::Result<()> {
+    match reply {
+        Reply::Done => out.text("done"),
+        Reply::Radiance(s) => value(&<[f32; 3]>::from(s), out),
+        Reply::Density(density) => value(&[density], out),
+        Reply::Drawn(d) => drawn(d.radius, d.rounds, out),
     }
 }
 
 // ---- the calls
 
-fn start(r: Record, lists: &mut Lists, out: &mut Output) {
-    let Lent {
-        rho,
-        radii,
-        profile,
-        eff,
-        cdf,
-        marks,
-    } = lists.lent();
-    let outcome = table::start(r, rho, radii, profile, eff, cdf, marks);
-    tell_outcome(outcome, out);
-}
-
-fn step(r: Record, call: Call, lists: &mut Lists, out: &mut Output) {
-    let Lent {
-        rho,
-        radii,
-        profile,
-        eff,
-        cdf,
-        marks,
-    } = lists.lent();
-    let answer = workstations::step(r, rho, radii, profile, eff, cdf, marks, call);
-    tell(answer, out);
-}
-
-pub fn answer(ask: Ask, n: &Numbers, lists: &mut Lists, out: &mut Output) {
-    match ask {
-        Ask::Start => start(record(n), lists, out),
-        Ask::Build => step(record(n), Call::Build(n.size(4)), lists, out),
-        _ => step(record(n), Call::Ask(query(ask, n)), lists, out),
+fn step(r: Record, call: Call, lists: &mut Lists, out: &mut Output) -> Result<(), Failure> {
+    match workstations::step(&mut lists.table(r), call) {
+        Ok(reply) => tell(reply, out)?,
+        Err(refusal) => refused(refusal, out)?,
     }
+    Ok(())
+}
+
+pub fn start(mut line: Line<'_>, lists: &mut Lists, out: &mut Output) -> Result<(), Failure> {
+    let r = record(&mut line)?;
+    line.end()?;
+    match table::start(r, &mut lists.lent()) {
+        Ok(()) => out.text("done")?,
+        Err(refusal) => refused(refusal, out)?,
+    }
+    Ok(())
+}
+
+pub fn build(mut line: Line<'_>, lists: &mut Lists, out: &mut Output) -> Result<(), Failure> {
+    let r = record(&mut line)?;
+    let row = line.size()?;
+    line.end()?;
+    step(r, Call::Build(row), lists, out)
+}
+
+pub fn sr(mut line: Line<'_>, lists: &mut Lists, out: &mut Output) -> Result<(), Failure> {
+    let r = record(&mut line)?;
+    let c = coefficients(&mut line)?;
+    let x = WorldRadius(line.last()?);
+    step(r, Call::Ask(Query::Sr(c, x)), lists, out)
+}
+
+pub fn pdf_sr(mut line: Line<'_>, lists: &mut Lists, out: &mut Output) -> Result<(), Failure> {
+    let r = record(&mut line)?;
+    let c = coefficients(&mut line)?;
+    let ch = channel(&mut line)?;
+    let x = WorldRadius(line.last()?);
+    step(r, Call::Ask(Query::PdfSr(ch, c, x)), lists, out)
+}
+
+pub fn sample_sr(mut line: Line<'_>, lists: &mut Lists, out: &mut Output) -> Result<(), Failure> {
+    let r = record(&mut line)?;
+    let c = coefficients(&mut line)?;
+    let ch = channel(&mut line)?;
+    let u = line.float()?;
+    let allowance = line.int()?;
+    line.end()?;
+    step(
+        r,
+        Call::Ask(Query::SampleSr(ch, c, u, allowance)),
+        lists,
+        out,
+    )
 }

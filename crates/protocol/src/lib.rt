@@ -7,51 +7,33 @@ pub mod free;
 pub mod lent;
 pub mod own;
 
-use lists::{Ask, Lists};
-use words::{Form, Line, Output};
+use lists::{LENT, Lists, OWN};
+use words::{Failure, Line, Malformed, Output};
 
-// What a line asks for.
-#[derive(Clone, Copy)]
-enum Call {
-    Lists(Ask),
-    Lent(lent::Ask),
-    Own(own::Ask),
-    Free(free::Ask),
-}
-
-static LINES: [Form<Call>; 20] = [
-    ("lens", "iiiiii", Call::Lists(Ask::Lens)),
-    ("ownlens", "iiii", Call::Lists(Ask::Ownlens)),
-    ("put", "ii+", Call::Lists(Ask::Put)),
-    ("fill", "ib", Call::Lists(Ask::Fill)),
-    ("list", "i", Call::Lists(Ask::List)),
-    ("dump", "", Call::Lists(Ask::Dump)),
-    ("owndump", "", Call::Lists(Ask::Owndump)),
-    ("dumpall", "", Call::Lists(Ask::Dumpall)),
-    ("start", "iibb", Call::Lent(lent::Ask::Start)),
-    ("build", "iibbi", Call::Lent(lent::Ask::Build)),
-    ("sr", "iibbbbbbbbb", Call::Lent(lent::Ask::Sr)),
-    ("pdf", "iibbbbbbbbcb", Call::Lent(lent::Ask::Pdf)),
-    ("draw", "iibbbbbbbbcbi", Call::Lent(lent::Ask::Draw)),
-    ("weights", "b", Call::Own(own::Ask::Weights)),
-    ("integrate", "", Call::Own(own::Ask::Integrate)),
-    ("sample2d", "bbi", Call::Own(own::Ask::Sample2d)),
-    ("sw", "bb", Call::Free(free::Ask::Sw)),
-    ("q", "b", Call::Free(free::Ask::Q)),
-    ("e", "b", Call::Free(free::Ask::E)),
-    ("l", "b", Call::Free(free::Ask::L)),
-];
-
-// Answers a line, if it has one of the forms and fits the lists: whether it does.
-pub fn answer(line: &[u8], lists: &mut Lists, out: &mut Output) -> bool {
-    let Some(Line { ask, numbers }) = words::read(line, &LINES) else {
-        return false;
-    };
-    match ask {
-        Call::Lists(ask) => return lists.answer(ask, &numbers, out),
-        Call::Lent(ask) => lent::answer(ask, &numbers, lists, out),
-        Call::Own(ask) => own::answer(ask, &numbers, lists, out),
-        Call::Free(ask) => return free::answer(ask, &numbers, out),
+// Answers a line, if it has one of the forms and fits the lists.
+pub fn answer(text: &[u8], lists: &mut Lists, out: &mut Output) -> Result<(), Failure> {
+    let mut line = Line::new(text);
+    match line.word()? {
+        b"lens" => lists.lens(line, out),
+        b"ownlens" => lists.own_lens(line, out),
+        b"put" => lists.put(line, out),
+        b"fill" => lists.fill(line, out),
+        b"list" => lists.show(line, out),
+        b"dump" => lists.dump(&LENT, line, out),
+        b"owndump" => lists.dump(&OWN, line, out),
+        b"dumpall" => lists.dump_all(line, out),
+        b"start" => lent::start(line, lists, out),
+        b"build" => lent::build(line, lists, out),
+        b"sr" => lent::sr(line, lists, out),
+        b"pdf" => lent::pdf_sr(line, lists, out),
+        b"draw" => lent::sample_sr(line, lists, out),
+        b"weights" => own::weights(line, lists, out),
+        b"integrate" => own::integrate(line, lists, out),
+        b"sample2d" => own::sample_2d(line, lists, out),
+        b"sw" => free::sw(line, out),
+        b"q" => free::of_one(line, out, elementary::sqrt),
+        b"e" => free::of_one(line, out, elementary::exp),
+        b"l" => free::ln(line, out),
+        _ => Err(Failure::Line(Malformed)),
     }
-    true
 }

@@ -3,113 +3,140 @@
 // has the word 1 or 0, or `r` and the refusal's number. oracle/scattering makes cases and answers.
 #![tactic(auto)]
 
-use scattering::{RGBEnum, Spectrum, SwAnswer};
+use answers::Refusal;
+use scattering::{RGBEnum, Spectrum};
 use std::io;
-use words::{Form, Line, Numbers, Output};
+use words::{Failure, Line, Malformed, Output};
 
+// What a function gives. A refusal is one of the kinds of answers that are printed.
 #[derive(Clone, Copy)]
-enum Ask {
-    ClampT,
-    FrDielectric,
-    PhaseHG,
-    Moment1,
-    Moment2,
-    Single,
-    Multiple,
-    Sw,
-    Add,
-    Mul,
-    Clamp,
-    HasNans,
-    Channel,
+enum Value {
+    Float(f32),
+    Whole(Spectrum),
+    Truth(bool),
+    Refused(Refusal),
 }
 
-static LINES: [Form<Ask>; 13] = [
-    ("clamp_t", "bbb", Ask::ClampT),
-    ("fr_dielectric", "bbb", Ask::FrDielectric),
-    ("phase_hg", "bb", Ask::PhaseHG),
-    ("fresnel_moment1", "b", Ask::Moment1),
-    ("fresnel_moment2", "b", Ask::Moment2),
-    ("beam_diffusion_ss", "bbbbb", Ask::Single),
-    ("beam_diffusion_ms", "bbbbb", Ask::Multiple),
-    ("sw", "bb", Ask::Sw),
-    ("add", "bbbbbb", Ask::Add),
-    ("mul", "bbbbbb", Ask::Mul),
-    ("clamp", "bbbbb", Ask::Clamp),
-    ("has_nans", "bbb", Ask::HasNans),
-    ("channel", "bbbb", Ask::Channel),
-];
+// ---- functions of floats
 
-fn spectrum(n: &Numbers, r: usize, g: usize, b: usize) -> Spectrum {
-    Spectrum::rgb(n.float(r), n.float(g), n.float(b))
+fn of_one<F: FnOnce(f32) -> f32>(line: &mut Line<'_>, f: F) -> Result<Value, Malformed>
+    requires { F.IsAlwaysCallable f }
+{
+    Ok(Value::Float(f(line.float()?)))
 }
 
-fn channel(number: u32) -> RGBEnum {
-    match number {
-        0 => RGBEnum::Red,
-        1 => RGBEnum::Green,
-        _ => RGBEnum::Blue,
+fn of_two<F: FnOnce(f32, f32) -> f32>(line: &mut Line<'_>, f: F) -> Result<Value, Malformed>
+    requires { F.IsAlwaysCallable f }
+{
+    let [a, b] = line.floats::<2>()?;
+    Ok(Value::Float(f(a, b)))
+}
+
+fn of_three<F: FnOnce(f32, f32, f32) -> f32>(line: &mut Line<'_>, f: F) -> Result<Value, Malformed>
+    requires { F.IsAlwaysCallable f }
+{
+    let [a, b, c] = line.floats::<3>()?;
+    Ok(Value::Float(f(a, b, c)))
+}
+
+fn of_five<F: FnOnce(f32, f32, f32, f32, f32) -> f32>(
+    line: &mut Line<'_>,
+    f: F,
+) -> Result<Value, Malformed>
+    requires { F.IsAlwaysCallable f }
+{
+    let [a, b, c, d, e] = line.floats::<5>()?;
+    Ok(Value::Float(f(a, b, c, d, e)))
+}
+
+fn sw(line: &mut Line<'_>) -> Result<Value, Malformed> {
+    let [eta, cosine] = line.floats::<2>()?;
+    Ok(match scattering::sw(eta, cosine) {
+        Ok(s) => Value::Whole(s),
+        Err(refusal) => Value::Refused(refusal),
+    })
+}
+
+// ---- functions of spectra
+
+fn spectrum(line: &mut Line<'_>) -> Result<Spectrum, Malformed> {
+    let [r, g, b] = line.floats::<3>()?;
+    Ok(Spectrum::rgb(r, g, b))
+}
+
+fn of_spectra<F: FnOnce(Spectrum, Spectrum) -> Spectrum>(
+    line: &mut Line<'_>,
+    f: F,
+) -> Result<Value, Malformed>
+    requires { F.IsAlwaysCallable f }
+{
+    let s = spectrum(line)?;
+    Ok(Value::Whole(f(s, spectrum(line)?)))
+}
+
+fn clamp(line: &mut Line<'_>) -> Result<Value, Malformed> {
+    let s = spectrum(line)?;
+    let [low, high] = line.floats::<2>()?;
+    Ok(Value::Whole(s.clamp(low, high)))
+}
+
+fn has_nans(line: &mut Line<'_>) -> Result<Value, Malformed> {
+    Ok(Value::Truth(spectrum(line)?.has_nans()))
+}
+
+// A number that is no channel's stands for the last channel.
+fn channel(line: &mut Line<'_>) -> Result<Value, Malformed> {
+    let number: u32 = line.entry()?;
+    let channel = RGBEnum::try_from(number).unwrap_or(RGBEnum::Blue);
+    Ok(Value::Float(spectrum(line)?[channel]))
+}
+
+// ---- lines
+
+fn result(line: &mut Line<'_>) -> Result<Value, Malformed> {
+    match line.word()? {
+        b"clamp_t" => of_three(line, scattering::clamp_t),
+        b"fr_dielectric" => of_three(line, scattering::fr_dielectric),
+        b"phase_hg" => of_two(line, scattering::phase_hg),
+        b"fresnel_moment1" => of_one(line, scattering::fresnel_moment1),
+        b"fresnel_moment2" => of_one(line, scattering::fresnel_moment2),
+        b"beam_diffusion_ss" => of_five(line, scattering::beam_diffusion_ss),
+        b"beam_diffusion_ms" => of_five(line, scattering::beam_diffusion_ms),
+        b"sw" => sw(line),
+        b"add" => of_spectra(line, |s, t| s + t),
+        b"mul" => of_spectra(line, |s, t| s * t),
+        b"clamp" => clamp(line),
+        b"has_nans" => has_nans(line),
+        b"channel" => channel(line),
+        _ => Err(Malformed),
     }
 }
 
-fn value(xs: &[f32], out: &mut Output) {
-    out.text(b"v");
-    out.floats(xs);
+fn floats(xs: &[f32], out: &mut Output) -> io::Result<()> {
+    out.text("v")?;
+    out.entries(xs)
 }
 
-fn whole(s: Spectrum, out: &mut Output) {
-    value(&[s.r, s.g, s.b], out);
-}
-
-fn truth(is_true: bool, out: &mut Output) {
-    out.text(b"v");
-    out.bits(u32::from(is_true));
-}
-
-fn sw(n: &Numbers, out: &mut Output) {
-    match scattering::sw(n.float(0), n.float(1)) {
-        SwAnswer::Value(s) => whole(s, out),
-        SwAnswer::Refused(k) => {
-            out.text(b"r");
-            out.bits(k);
+fn show(value: Value, out: &mut Output) -> io::Result<()> {
+    match value {
+        Value::Float(x) => floats(&[x], out),
+        Value::Whole(s) => floats(&<[f32; 3]>::from(s), out),
+        Value::Truth(is_true) => {
+            out.text("v")?;
+            out.bits(u32::from(is_true))
+        }
+        Value::Refused(refusal) => {
+            out.text("r")?;
+            out.bits(u32::from(refusal))
         }
     }
 }
 
-fn float(ask: Ask, n: &Numbers) -> f32 {
-    let a = n.float(0);
-    let b = n.float(1);
-    let c = n.float(2);
-    match ask {
-        Ask::ClampT => scattering::clamp_t(a, b, c),
-        Ask::FrDielectric => scattering::fr_dielectric(a, b, c),
-        Ask::PhaseHG => scattering::phase_hg(a, b),
-        Ask::Moment1 => scattering::fresnel_moment1(a),
-        Ask::Moment2 => scattering::fresnel_moment2(a),
-        Ask::Single => scattering::beam_diffusion_ss(a, b, c, n.float(3), n.float(4)),
-        Ask::Multiple => scattering::beam_diffusion_ms(a, b, c, n.float(3), n.float(4)),
-        _ => spectrum(n, 1, 2, 3).channel(channel(n.int(0))),
-    }
-}
-
-fn result(ask: Ask, n: &Numbers, out: &mut Output) {
-    let s = spectrum(n, 0, 1, 2);
-    match ask {
-        Ask::Sw => sw(n, out),
-        Ask::Add => whole(s.add(spectrum(n, 3, 4, 5)), out),
-        Ask::Mul => whole(s.mul(spectrum(n, 3, 4, 5)), out),
-        Ask::Clamp => whole(s.clamp(n.float(3), n.float(4)), out),
-        Ask::HasNans => truth(s.has_nans(), out),
-        _ => value(&[float(ask, n)], out),
-    }
-}
-
-fn answer(line: &[u8], out: &mut Output) -> bool {
-    let Some(Line { ask, numbers }) = words::read(line, &LINES) else {
-        return false;
-    };
-    result(ask, &numbers, out);
-    true
+fn answer(line: &[u8], out: &mut Output) -> Result<(), Failure> {
+    let mut line = Line::new(line);
+    let value = result(&mut line)?;
+    line.end()?;
+    Ok(show(value, out)?)
 }
 
 fn main(rt: HostRuntime) -> io::Result<()> {

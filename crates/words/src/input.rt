@@ -1,8 +1,9 @@
 // The lines of standard input, each ended by one LF, which the last may lack.
+use crate::failure::{Failure, Malformed};
 use crate::output::Output;
 use std::alloc::Global;
-use std::io;
 use std::io::{BufRead, BufReader, Read, Stdin, Stdout};
+use std::{io, str};
 
 // The most bytes of a line. Of a longer one no more are kept than tell so.
 const LONGEST: usize = 2000;
@@ -48,33 +49,44 @@ impl Input {
         Ok(!self.line.is_empty())
     }
 
-    fn is_too_long(&self) -> bool {
-        self.line.len() > LONGEST
+    // The line that was read, if it has at most 2,000 bytes.
+    fn text(&self) -> Result<&[u8], Malformed> {
+        if self.line.len() > LONGEST {
+            return Err(Malformed);
+        }
+        Ok(self.line.as_slice())
     }
 }
 
-fn answer_all<F: FnMut(&[u8], &mut Output) -> bool>(
+fn answer_all<F: FnMut(&[u8], &mut Output) -> Result<(), Failure>>(
     mut input: Input,
     out: &mut Output,
     mut answer: F,
 ) -> io::Result<()>
     requires { F.IsAlwaysCallable answer }
 {
+    // to the input's end
     for _ in 0..u64::MAX {
         if !input.read(out)? {
             break;
         }
-        if input.is_too_long() || !answer(input.line.as_slice(), out) {
-            out.text(b"bad");
+        let answered = match input.text() {
+            Ok(line) => answer(line, out),
+            Err(malformed) => Err(Failure::Line(malformed)),
+        };
+        match answered {
+            Ok(()) => {}
+            Err(Failure::Line(_)) => out.text("bad")?,
+            Err(Failure::Write(e)) => return Err(e),
         }
-        out.text(b"\n");
+        out.text("\n")?;
     }
     Ok(())
 }
 
-// Has each line of standard input answered, up to its end. One that has no answer, and one of more
-// than 2,000 bytes, gets `bad`.
-pub fn answer_lines<F: FnMut(&[u8], &mut Output) -> bool>(
+// Has each line of standard input answered, up to its end. One that is malformed, and one of more than
+// 2,000 bytes, gets `bad`.
+pub fn answer_lines<F: FnMut(&[u8], &mut Output) -> Result<(), Failure>>(
     alloc: Global,
     from: Stdin,
     to: Stdout,

@@ -2,12 +2,14 @@
 // the text of answers on its way to standard output.
 #![tactic(auto)]
 
-pub mod forms;
+pub mod entry;
+pub mod failure;
 pub mod input;
-pub mod numbers;
+pub mod line;
 pub mod output;
 
-pub use forms::{Form, Line, read};
+pub use entry::Entry;
+pub use failure::{Failure, Malformed};
 pub use input::answer_lines;
-pub use numbers::Numbers;
+pub use line::Line;
 pub use output::Output;

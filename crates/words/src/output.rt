@@ -1,38 +1,38 @@
 // The text of answers. It gathers in a buffer, and goes to standard output when that is full and
-// before more input is read. Once a write has failed nothing more is written: `flush` tells it, and
-// `end` lets go of what is left.
+// before more input is read.
+use crate::entry::Entry;
 use std::alloc::Global;
+use std::fmt::Display;
 use std::io;
 use std::io::{BufWriter, Stdout, Write};
 
 #[derive(Drop)]
 pub struct Output {
     to: BufWriter<Stdout>,
-    failure: Option<io::Error>,
 }
 
 impl Output {
     pub fn new(alloc: Global, to: Stdout) -> io::Result<Output> {
         Ok(Output {
             to: BufWriter::with_capacity(alloc, 65536, to)?,
-            failure: None,
         })
     }
 
-    pub fn text(&mut self, text: &[u8]) {
-        if self.failure.is_none() {
-            self.failure = self.to.write_all(text).err();
-        }
+    pub fn bytes(&mut self, bytes: &[u8]) -> io::Result<()> {
+        self.to.write_all(bytes)
+    }
+
+    pub fn text(&mut self, text: &str) -> io::Result<()> {
+        self.bytes(text.as_bytes())
     }
 
     // A space and the number in decimal.
-    pub fn int(&mut self, n: u32) {
-        if self.failure.is_none() {
-            self.failure = write!(self.to, " {n}").err();
-        }
+    pub fn int<N: Display + Drop>(&mut self, n: N) -> io::Result<()> {
+        write!(self.to, " {n}")
     }
 
-    fn digits(&mut self, n: u32) {
+    // By hand, since with `{n:08x}` `elementary_test` takes half as long again.
+    fn digits(&mut self, n: u32) -> io::Result<()> {
         const DIGITS: &[u8; 16] = b"0123456789abcdef";
         let mut text = [0u8; 8];
         let mut rest = n;
@@ -40,33 +40,31 @@ impl Output {
             *place = DIGITS[(rest >> 28) as usize];
             rest <<= 4;
         }
-        self.text(&text);
+        self.bytes(&text)
     }
 
     // A space and 8 digits.
-    pub fn bits(&mut self, n: u32) {
-        self.text(b" ");
-        self.digits(n);
+    pub fn bits(&mut self, n: u32) -> io::Result<()> {
+        self.text(" ")?;
+        self.digits(n)
     }
 
     // A space and 16 digits.
-    pub fn long_bits(&mut self, n: u64) {
-        self.bits((n >> 32) as u32);
-        self.digits((n & 0xffff_ffff) as u32);
+    pub fn long_bits(&mut self, n: u64) -> io::Result<()> {
+        self.bits((n >> 32) as u32)?;
+        self.digits((n & 0xffff_ffff) as u32)
     }
 
-    // The bits of each float. Every NaN has the same.
-    pub fn floats(&mut self, xs: &[f32]) {
+    // The bits of each entry.
+    pub fn entries<T: Entry>(&mut self, xs: &[T]) -> io::Result<()> {
         for x in xs {
-            self.bits(elementary::float_to_bits(*x));
+            self.bits(x.bits())?;
         }
+        Ok(())
     }
 
     pub fn flush(&mut self) -> io::Result<()> {
-        match self.failure.take() {
-            Some(e) => Err(e),
-            None => self.to.flush(),
-        }
+        self.to.flush()
     }
 
     // Writes what is left, if all has gone well. A `BufWriter` that is dropped would write it anyhow.
@@ -76,7 +74,7 @@ impl Output {
             Err(e) => Err(e),
         };
         if whole.is_err() {
-            let Output { to, failure: _ } = self;
+            let Output { to } = self;
             let _unwritten = to.into_parts();
         }
         whole

@@ -1,0 +1,49 @@
+// The lists' names, each of which has a number.
+use words::Malformed;
+
+#[derive(Clone, Copy)]
+pub enum Name {
+    Rho,
+    Radii,
+    Profile,
+    Eff,
+    Cdf,
+    Marks,
+    Nodes1,
+    Nodes2,
+    Values,
+    OwnCdf,
+}
+
+// The lists of a table.
+pub const LENT: [Name; 6] = [
+    Name::Rho,
+    Name::Radii,
+    Name::Profile,
+    Name::Eff,
+    Name::Cdf,
+    Name::Marks,
+];
+
+// A caller's own.
+pub const OWN: [Name; 4] = [Name::Nodes1, Name::Nodes2, Name::Values, Name::OwnCdf];
+
+impl TryFrom<u32> for Name {
+    type Error = Malformed;
+
+    fn try_from(number: u32) -> Result<Name, Malformed> {
+        match number {
+            0 => Ok(Name::Rho),
+            1 => Ok(Name::Radii),
+            2 => Ok(Name::Profile),
+            3 => Ok(Name::Eff),
+            4 => Ok(Name::Cdf),
+            5 => Ok(Name::Marks),
+            6 => Ok(Name::Nodes1),
+            7 => Ok(Name::Nodes2),
+            8 => Ok(Name::Values),
+            9 => Ok(Name::OwnCdf),
+            _ => Err(Malformed),
+        }
+    }
+}
