@@ -1,5 +1,5 @@
 -- What the weights of a value among nodes reach: their rows, counted from 1, and the places of these in a table. Assumes nothing.
-use mathlib.Core.Path.{◌≡◌, ap, ◌∙◌}
+use mathlib.Core.Path.{◌≡◌}
 use Prim.Native.Nat.{ℕ, ◌+◌, ◌*◌, ◌≤◌}
 use native.Mathlib.Nat.{le_trans, mul-le-mul_right}
 use native.Mathlib.Omega.{arith}
@@ -14,15 +14,10 @@ use Rattle.interpolation.specs.Laws.{Reach}
 use Rattle.interpolation.proofs.Bisection.{node_bound}
 use Rattle.interpolation.proofs.Reach.{reach}
 use Rattle.interpolation.proofs.Rows.{row_is, in_table}
-use Rattle.bssrdf.specs.Radiance.{over_four}
 
 -- the row of weight k, counted from 1, ends within the list if that of weight 2 does
 pub row_ends : (profile : List Float) (m i : ℕ) (f : Four) → InTable profile m i f → (k : ℕ) → k ≤ 2 → (i + k) * m ≤ length profile
 row_ends profile m i f t k l = le_trans (mul-le-mul_right m (omega arith)) t.inside
-
--- four steps, one after the other
-pub in_turn : (step : ℕ → Float → Float) (z : Float) {v0 v1 v2 v3 : Float} → v0 ≡ step 0 z → v1 ≡ step 1 v0 → v2 ≡ step 2 v1 → v3 ≡ step 3 v2 → v3 ≡ over_four step z
-in_turn step z p q r s = s ∙ ap (step 3) (r ∙ ap (step 2) (q ∙ ap (step 1) p))
 
 -- ---- what the weights of a value among nodes reach
 

@@ -13,7 +13,7 @@ use Rattle.elementary.specs.Notation.{◌⊕◌, ◌⊗◌, lit}
 use Rattle.answers.specs.Answer.{Answer}
 use Rattle.answers.specs.Checks.{first_of}
 use Rattle.interpolation.specs.Nodes.{finite}
-use Rattle.interpolation.specs.Weights.{weight_at, catmull_rom_weights}
+use Rattle.interpolation.specs.Weights.{weight_at, catmull_rom_weights, over_four}
 use Rattle.interpolation.specs.Blend.{row_of}
 use Rattle.interpolation.specs.Sample.{draw_from, sample_catmull_rom_2d}
 use Rattle.interpolation.specs.Checks.{check9, check10}
@@ -36,7 +36,7 @@ use Rattle.bssrdf.specs.Coefficients.{sigma_t, rho}
 use Rattle.bssrdf.specs.Axes.{optical_radius, albedo_weights, radius_weights}
 use Rattle.bssrdf.specs.Needed.{weighted_rows, rows_of, rows_of_both, pdf_rows, sr_rows, sample_rows, among}
 use Rattle.bssrdf.specs.Checks.{check8, query_number, draw_number}
-use Rattle.bssrdf.specs.Radiance.{eval_profile, over_four, add_product, add_cell, tensor, cancelled, channel_sr, channel_at, unclamped}
+use Rattle.bssrdf.specs.Radiance.{eval_profile, add_product, add_cell, tensor, cancelled, channel_sr, channel_at, unclamped}
 use Rattle.bssrdf.specs.Density.{add_term, add_entry, add_entries, profile_sum, blended_albedo, density_of, density_at}
 use Rattle.bssrdf.specs.Drawing.{drawn_value, divided, drawn_at}
 use Rattle.bssrdf.specs.Laws.{Alike, NodesHold}

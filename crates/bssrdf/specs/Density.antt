@@ -6,7 +6,7 @@ use Rattle.elementary.specs.Sign.{max0}
 use Rattle.answers.specs.Answer.{Answer, value}
 use Rattle.answers.specs.Refusal.{told}
 use Rattle.answers.specs.declared.refusal.Refusal.{Refusal}
-use Rattle.interpolation.specs.Weights.{weight_at}
+use Rattle.interpolation.specs.Weights.{weight_at, over_four}
 use Rattle.interpolation.specs.Blend.{interpolate}
 use Rattle.interpolation.specs.declared.weights.Four.{Four}
 use Rattle.interpolation.specs.declared.weights.Weights.{Weights}
@@ -19,7 +19,7 @@ use Rattle.bssrdf.specs.Axes.{optical_radius, albedo_weights, radius_weights}
 use Rattle.bssrdf.specs.Needed.{pdf_rows}
 use Rattle.bssrdf.specs.Checks.{query_number}
 use Rattle.bssrdf.specs.Question.{Question, posed}
-use Rattle.bssrdf.specs.Radiance.{eval_profile, over_four, cancelled}
+use Rattle.bssrdf.specs.Radiance.{eval_profile, cancelled}
 use Rattle.bssrdf.specs.declared.coefficients.Coefficients.{Coefficients}
 use Rattle.bssrdf.specs.declared.coefficients.WorldRadius.{WorldRadius}
 use Rattle.bssrdf.specs.declared.coefficients.OpticalRadius.{OpticalRadius}

@@ -7,7 +7,7 @@ use Rattle.elementary.specs.Constants.{pi}
 use Rattle.answers.specs.Answer.{Answer, answered}
 use Rattle.answers.specs.Refusal.{told}
 use Rattle.answers.specs.declared.refusal.Refusal.{Refusal}
-use Rattle.interpolation.specs.Weights.{weight_at, four_of}
+use Rattle.interpolation.specs.Weights.{weight_at, over_four, four_of}
 use Rattle.interpolation.specs.Blend.{row_of, InTable}
 use Rattle.interpolation.specs.Laws.{Reach, Bounded}
 use Rattle.interpolation.specs.declared.weights.Four.{Four}
@@ -32,10 +32,6 @@ use Rattle.bssrdf.specs.declared.coefficients.OpticalRadius.{OpticalRadius}
 -- `eval_profile`: the entry of the albedo weight i and the radius weight j, in a profile with m radii. Either offset may be -1; the weight of that place is zero, and its entry is not read (`factors_nonzero` of proofs/Products)
 unfoldable pub eval_profile : List Float → ℕ → ℤ → ℤ → ℕ → ℕ → Float
 eval_profile profile m rho_offset radius_offset i j = get_or profile (row_of rho_offset i * m + row_of radius_offset j) nan
-
--- the places 0 to 3, one after the other
-abbrev pub over_four : (ℕ → Float → Float) → Float → Float
-over_four step v = step 3 (step 2 (step 1 (step 0 v)))
 
 -- a place of the tensor spline: it is skipped where the product of its two weights is zero
 unfoldable pub add_product : Float → Float → Float → Float → Float

@@ -5,26 +5,12 @@ ghost use Rattle.std.specs.Float.{nan};
 ghost use Rattle.elementary.specs.Notation.{lit};
 ghost use Rattle.interpolation.specs.Laws.{Reach, Bounded};
 ghost use Rattle.interpolation.specs.Nodes.{finite};
-ghost use Rattle.interpolation.specs.Weights.{offset_of, weight_at};
+ghost use Rattle.interpolation.specs.Weights.{offset_of, over_four, weight_at};
 ghost use Rattle.interpolation.specs.Blend.{row_of};
 ghost use Rattle.bssrdf.specs.Radiance as Radiance;
 ghost use Rattle.bssrdf.specs.Density as Density;
 
 use interpolation::weights::Place;
-
-// One step after the other for the four nodes around a place: each is given the number of its node,
-// counted from 1, that node's weight, and what the step before it gave.
-pub fn over_four<F: Fn(usize, f32, f32) -> f32>(place: Place, start: f32, step: F) -> f32
-    requires { (k node : ℕ) (v : Float) → k < 4 → node ≡ place.interval + k → F.pre step node (weight_at place.four k) v }
-    ensures { (s : ℕ → Float → Float) → ((k node : ℕ) (v w : Float) → k < 4 → node ≡ place.interval + k → F.post step node (weight_at place.four k) v w → w ≡ s k v) → result ≡ Radiance.over_four s start }
-{
-    let i = place.interval;
-    let four = place.four;
-    let v0 = step(i, four.w0, start);
-    let v1 = step(i + 1, four.w1, v0);
-    let v2 = step(i + 2, four.w2, v1);
-    step(i + 3, four.w3, v2)
-}
 
 // The four functions below have each its own test of the weights, and what they ask of a row holds only
 // where its weight is not zero: a type for the row would have to hold the weight, the test and the step.
@@ -51,9 +37,9 @@ fn add_cell(profile: &[f32], m: usize, row: usize, col: usize, p: f32, q: f32, s
 fn add_row(profile: &[f32], m: usize, row: usize, radius: Place, p: f32, srf: f32) -> f32
     requires weights { (finite p ≡ true) × Bounded radius.four × Reach radius.four radius.interval m }
     requires row_held { eq p (lit 0) ≡ false → (1 ≤ row) × (row * m ≤ length profile.now) }
-    ensures { result ≡ Radiance.over_four (λ k. Radiance.add_product p (weight_at radius.four k) (get_or profile.now ((row - 1) * m + row_of (offset_of radius.interval) k) nan)) srf }
+    ensures { result ≡ over_four (λ k. Radiance.add_product p (weight_at radius.four k) (get_or profile.now ((row - 1) * m + row_of (offset_of radius.interval) k) nan)) srf }
 {
-    over_four(radius, srf, |col, q, sum| {
+    radius.over_four(srf, |col, q, sum| {
         add_cell(profile, m, row, col, p, q, sum)
     })
 }
@@ -77,12 +63,12 @@ fn add_entry(profile: &[f32], m: usize, row: usize, col: usize, p: f32, q: f32, 
 fn add_entries(profile: &[f32], m: usize, row: usize, radius: Place, p: f32, v: f32) -> f32
     requires reach { Reach radius.four radius.interval m }
     requires row_held { eq p (lit 0) ≡ false → (1 ≤ row) × (row * m ≤ length profile.now) }
-    ensures { result ≡ cond (eq p (lit 0)) v (Radiance.over_four (λ k. Density.add_term p (weight_at radius.four k) (get_or profile.now ((row - 1) * m + row_of (offset_of radius.interval) k) nan)) v) }
+    ensures { result ≡ cond (eq p (lit 0)) v (over_four (λ k. Density.add_term p (weight_at radius.four k) (get_or profile.now ((row - 1) * m + row_of (offset_of radius.interval) k) nan)) v) }
 {
     if p == 0.0 {
         return v;
     }
-    over_four(radius, v, |col, q, sum| {
+    radius.over_four(v, |col, q, sum| {
         add_entry(profile, m, row, col, p, q, sum)
     })
 }
@@ -110,7 +96,7 @@ impl Cells<'_> {
             rho,
             radius,
         } = self;
-        over_four(rho, 0.0, |row, p, sum| {
+        rho.over_four(0.0, |row, p, sum| {
             add_row(profile, m, row, radius, p, sum)
         })
     }
@@ -126,7 +112,7 @@ impl Cells<'_> {
             rho,
             radius,
         } = self;
-        over_four(rho, 0.0, |row, p, sum| {
+        rho.over_four(0.0, |row, p, sum| {
             add_entries(profile, m, row, radius, p, sum)
         })
     }

@@ -1,6 +1,6 @@
 -- The rows that a blend reads. The row of weight k in the interval i is i + k - 1 (`row_is`), and lies within the table where its weight is not zero, since its node exists (`in_table`).
 -- So a blend depends on those rows alone: tables that agree there give the same blend (`interpolate_same`). Assumes nothing.
-use mathlib.Core.Path.{◌≡◌, refl}
+use mathlib.Core.Path.{◌≡◌, refl, ap, ◌∙◌}
 use mathlib.Core.Bool.{Bool, true, false, cond}
 use mathlib.Core.List.{List}
 use Prim.Native.Nat.{ℕ, zero, suc, ◌+◌, ◌-◌, ◌*◌, ◌≤◌, ◌<◌}
@@ -11,12 +11,16 @@ use lib.ListN.{get_or, length}
 use lib.Ieee.{Float, nan, eq, of_bits}
 use Rattle.elementary.specs.Notation.{◌⊕◌, ◌⊗◌, lit}
 use Rattle.interpolation.specs.Interval.{node_interval}
-use Rattle.interpolation.specs.Weights.{offset_of, four_at}
+use Rattle.interpolation.specs.Weights.{offset_of, four_at, over_four}
 use Rattle.interpolation.specs.Laws.{Reach, Agree}
 use Rattle.interpolation.specs.Blend.{row_of, add_row, interpolate, InTable, blend_at_most, blend_interval}
 use Rattle.interpolation.specs.declared.weights.Four.{Four}
 use Rattle.interpolation.proofs.Bisection.{interval_bound, node_bound}
 use Rattle.interpolation.proofs.Reach.{reach}
+
+-- four steps, one after the other
+pub in_turn : (step : ℕ → Float → Float) (z : Float) {v0 v1 v2 v3 : Float} → v0 ≡ step 0 z → v1 ≡ step 1 v0 → v2 ≡ step 2 v1 → v3 ≡ step 3 v2 → v3 ≡ over_four step z
+in_turn step z p q r s = s ∙ ap (step 3) (r ∙ ap (step 2) (q ∙ ap (step 1) p))
 
 pub row_is : (i k : ℕ) → row_of (offset_of i) k ≡ i + k - 1
 unfolding row_of offset_of

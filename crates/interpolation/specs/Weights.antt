@@ -59,6 +59,10 @@ weight_at f (suc zero) = f.w1
 weight_at f (suc (suc zero)) = f.w2
 weight_at f (suc (suc (suc p))) = f.w3
 
+-- the places 0 to 3, one after the other
+abbrev pub over_four : (ℕ → Float → Float) → Float → Float
+over_four step v = step 3 (step 2 (step 1 (step 0 v)))
+
 -- the four as a list, and a list as four
 abbrev pub list_of_four : Four → List Float
 list_of_four f = f.w0 ∷ f.w1 ∷ f.w2 ∷ f.w3 ∷ []

@@ -34,19 +34,13 @@ fn add_row(table: &[f32], m: usize, row: usize, col: usize, w: f32, value: f32) 
 
 impl Blend<'_> {
     // The blend of a column.
-    #[tactic(auto, using(crate::proofs::Rows::reading), unfolding(crate::specs::Blend::interpolate))]
+    #[tactic(auto, using(crate::proofs::Rows::reading))]
     pub fn interpolate(self, col: usize) -> f32
         requires { col < self.m }
         ensures { result ≡ interpolate self.entry.table.now self.entry.m (offset_of self.entry.place.interval) self.entry.place.four col }
     {
-        let table = self.table;
-        let m = self.m;
-        let i = self.place.interval;
-        let four = self.place.four;
-        let v0 = add_row(table, m, i, col, four.w0, 0.0);
-        let v1 = add_row(table, m, i + 1, col, four.w1, v0);
-        let v2 = add_row(table, m, i + 2, col, four.w2, v1);
-        add_row(table, m, i + 3, col, four.w3, v2)
+        let Blend { table, m, place } = self;
+        place.over_four(0.0, |row, w, value| add_row(table, m, row, col, w, value))
     }
 
     // `find_interval` over the blended columns: the interval that holds u, from 0 to m less 2. A loop

@@ -1,8 +1,8 @@
 // `catmull_rom_weights` of interpolation.rs.
-ghost use Rattle.std.specs.Prelude.{true, ◌≡◌, ◌+◌, ◌≤◌, ◌<◌, length};
+ghost use Rattle.std.specs.Prelude.{true, ℕ, Float, ◌≡◌, ◌+◌, ◌≤◌, ◌<◌, length};
 ghost use Rattle.interpolation.specs.Interval.{node_interval};
 ghost use Rattle.interpolation.specs.Weights as Spec;
-ghost use Rattle.interpolation.specs.Weights.{offset_of};
+ghost use Rattle.interpolation.specs.Weights.{offset_of, weight_at};
 
 use crate::nodes::Nodes;
 
@@ -45,6 +45,21 @@ pub struct Place {
     pub interval: usize,
     pub four: Four,
     pub ghost small: { interval ≤ 0x7fff_ffff },
+}
+
+impl Place {
+    // One step after the other for the four nodes: each is given the number of its node, counted from
+    // 1, that node's weight, and what the step before it gave.
+    pub fn over_four<F: Fn(usize, f32, f32) -> f32>(self, start: f32, step: F) -> f32
+        requires { (k node : ℕ) (v : Float) → k < 4 → node ≡ self.interval + k → F.pre step node (weight_at self.four k) v }
+        ensures { (s : ℕ → Float → Float) → ((k node : ℕ) (v w : Float) → k < 4 → node ≡ self.interval + k → F.post step node (weight_at self.four k) v w → w ≡ s k v) → result ≡ Spec.over_four s start }
+    {
+        let Place { interval: i, four } = self;
+        let v0 = step(i, four.w0, start);
+        let v1 = step(i + 1, four.w1, v0);
+        let v2 = step(i + 2, four.w2, v1);
+        step(i + 3, four.w3, v2)
+    }
 }
 
 // The offset, which is the first of the four nodes and may be -1, and their weights.

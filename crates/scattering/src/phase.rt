@@ -16,8 +16,8 @@ pub fn phase_hg(cos_theta: f32, g: f32) -> f32
     INV_4_PI * (1.0 - g * g) / (denom * elementary::sqrt(denom))
 }
 
-// `phase_hg` at the cosine of each sample. The roots of a list are taken together, by the machine,
-// which is faster than as many calls of `phase_hg`.
+// `phase_hg` at the cosine of each sample. The roots of a list are taken together, by the machine:
+// with a call of `phase_hg` for each, `beam_diffusion_ss` takes 1.26 times as long over a row of radii.
 pub fn phases(cosines: &[f32; N_SAMPLES], g: f32, out: &mut [f32; N_SAMPLES])
     ensures { out.new ≡ map (λ (c : Float). Phase.phase_hg c g) cosines.now }
 {

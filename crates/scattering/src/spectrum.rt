@@ -135,12 +135,22 @@ impl Index<RGBEnum> for Spectrum {
     }
 }
 
-// The three values, red first.
 impl From<Spectrum> for [f32; 3] {
     ghost from_gives = { λ s xs. xs ≡ Spectra.values s };
 
+    // The three values, red first.
     fn from(s: Spectrum) -> [f32; 3] {
         [s.r, s.g, s.b]
+    }
+}
+
+impl From<[f32; 3]> for Spectrum {
+    ghost from_gives = { λ xs s. Spectra.values s ≡ xs };
+
+    // By the three values, red first.
+    fn from(xs: [f32; 3]) -> Spectrum {
+        let [r, g, b] = xs;
+        Spectrum { r, g, b }
     }
 }
 

@@ -1,7 +1,7 @@
 -- `tensor` meets its contract: its steps are the rows of the definition.
 use Rattle.std.proofs.Common.{arith}
-use Rattle.interpolation.specs.Weights.{offset_of}
-use Rattle.bssrdf.specs.Radiance.{tensor, add_cell, eval_profile, over_four}
+use Rattle.interpolation.specs.Weights.{offset_of, over_four}
+use Rattle.bssrdf.specs.Radiance.{tensor, add_cell, eval_profile}
 use Rattle.bssrdf.proofs.Cells.{reading}
 use Rattle.bssrdf.proofs.grid.Cells.tensor.Goals as goal
 

@@ -1,7 +1,7 @@
 -- `over_four` meets its contract: the node of step k has the number of the place's interval and k.
 use Rattle.std.proofs.Common.{arith}
-use Rattle.bssrdf.proofs.Cells.{in_turn}
-use Rattle.bssrdf.proofs.grid.over_four.Goals as goal
+use Rattle.interpolation.proofs.Rows.{in_turn}
+use Rattle.interpolation.proofs.weights.Place.over_four.Goals as goal
 
 pub step-v0-requires : goal.step-v0-requires
 step-v0-requires g c = c.requires 0 _ _ (omega arith) (omega arith)
