@@ -2,11 +2,10 @@
 // lengths, store entries, and show or hash them.
 #![tactic(auto)]
 
-pub mod hash;
-pub mod lines;
-pub mod list;
-pub mod name;
+mod hash;
+mod lines;
+mod list;
+mod name;
 
 pub use lines::{Lists, Own};
-pub use list::{AnyList, List};
 pub use name::{LENT, Name, OWN};

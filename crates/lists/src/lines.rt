@@ -16,16 +16,16 @@ const CELLS: usize = 8580;
 // A table's six lists, and a caller's own: two lists of nodes, values and a CDF.
 #[derive(Drop)]
 pub struct Lists {
-    pub rho: List<f32, ROWS>,
-    pub radii: List<f32, RADII>,
-    pub profile: List<f32, CELLS>,
-    pub eff: List<f32, ROWS>,
-    pub cdf: List<f32, CELLS>,
-    pub marks: List<u8, ROWS>,
-    pub nodes1: List<f32, ROWS>,
-    pub nodes2: List<f32, ROWS>,
-    pub values: List<f32, CELLS>,
-    pub own_cdf: List<f32, CELLS>,
+    rho: List<f32, ROWS>,
+    radii: List<f32, RADII>,
+    profile: List<f32, CELLS>,
+    eff: List<f32, ROWS>,
+    cdf: List<f32, CELLS>,
+    marks: List<u8, ROWS>,
+    nodes1: List<f32, ROWS>,
+    nodes2: List<f32, ROWS>,
+    values: List<f32, CELLS>,
+    own_cdf: List<f32, CELLS>,
 }
 
 // The used parts of a caller's own lists.

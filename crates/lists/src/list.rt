@@ -5,25 +5,25 @@ use std::io;
 use words::{Entry, Line, Malformed, Output};
 
 #[derive(Drop)]
-pub struct List<T, const N: usize> {
+pub(crate) struct List<T, const N: usize> {
     room: [T; N],
     len: u32,
 }
 
 impl<T: Entry, const N: usize> List<T, N> {
-    pub fn new(x: T) -> List<T, N> {
+    pub(crate) fn new(x: T) -> List<T, N> {
         List {
             room: [x; N],
             len: 0,
         }
     }
 
-    pub fn used_mut(&mut self) -> &mut [T] {
+    pub(crate) fn used_mut(&mut self) -> &mut [T] {
         let n = N.min(self.len as usize);
         &mut self.room[..n]
     }
 
-    pub fn whole(&mut self) -> Whole<'_, T> {
+    pub(crate) fn whole(&mut self) -> Whole<'_, T> {
         Whole {
             room: &mut self.room[..],
             len: &mut self.len,
@@ -33,7 +33,7 @@ impl<T: Entry, const N: usize> List<T, N> {
 
 // A list of any capacity.
 #[derive(Drop)]
-pub struct Whole<'a, T> {
+pub(crate) struct Whole<'a, T> {
     room: &'a mut [T],
     len: &'a mut u32,
 }
@@ -89,34 +89,34 @@ impl<'a, T: Entry> Whole<'a, T> {
 
 // A list of any capacity and any entries.
 #[derive(Drop)]
-pub enum AnyList<'a> {
+pub(crate) enum AnyList<'a> {
     Floats(Whole<'a, f32>),
     Bytes(Whole<'a, u8>),
 }
 
 impl<'a> AnyList<'a> {
-    pub fn check_len(&mut self, len: u32) -> Result<(), Malformed> {
+    pub(crate) fn check_len(&mut self, len: u32) -> Result<(), Malformed> {
         match self {
             AnyList::Floats(list) => list.check_len(len),
             AnyList::Bytes(list) => list.check_len(len),
         }
     }
 
-    pub fn set_len(&mut self, len: u32) {
+    pub(crate) fn set_len(&mut self, len: u32) {
         match self {
             AnyList::Floats(list) => list.set_len(len),
             AnyList::Bytes(list) => list.set_len(len),
         }
     }
 
-    pub fn put(&mut self, from: usize, line: Line<'_>) -> Result<(), Malformed> {
+    pub(crate) fn put(&mut self, from: usize, line: Line<'_>) -> Result<(), Malformed> {
         match self {
             AnyList::Floats(list) => list.put(from, line.entries()?.as_slice()),
             AnyList::Bytes(list) => list.put(from, line.entries()?.as_slice()),
         }
     }
 
-    pub fn fill(&mut self, line: Line<'_>) -> Result<(), Malformed> {
+    pub(crate) fn fill(&mut self, line: Line<'_>) -> Result<(), Malformed> {
         match self {
             AnyList::Floats(list) => list.fill(line.last()?),
             AnyList::Bytes(list) => list.fill(line.last()?),
@@ -124,14 +124,14 @@ impl<'a> AnyList<'a> {
         Ok(())
     }
 
-    pub fn show(&mut self, out: &mut Output) -> io::Result<()> {
+    pub(crate) fn show(&mut self, out: &mut Output) -> io::Result<()> {
         match self {
             AnyList::Floats(list) => list.show(out),
             AnyList::Bytes(list) => list.show(out),
         }
     }
 
-    pub fn join(&mut self, hash: &mut Hash) {
+    pub(crate) fn join(&mut self, hash: &mut Hash) {
         match self {
             AnyList::Floats(list) => list.join(hash),
             AnyList::Bytes(list) => list.join(hash),

@@ -1,5 +1,5 @@
 // The calls on the six lists that a table lends.
-use crate::free::{refused, value};
+use crate::free::refused;
 use bssrdf::{Coefficients, WorldRadius};
 use lists::Lists;
 use scattering::{RGBEnum, Spectrum};
@@ -35,15 +35,15 @@ fn channel(line: &mut Line<'_>) -> Result<RGBEnum, Malformed> {
 // ---- answers
 
 fn drawn(radius: f32, rounds: u32, out: &mut Output) -> io::Result<()> {
-    value(&[radius], out)?;
+    out.values("value", &[radius])?;
     out.int(rounds)
 }
 
 fn tell(reply: Reply, out: &mut Output) -> io::Result<()> {
     match reply {
         Reply::Done => out.text("done"),
-        Reply::Radiance(s) => value(&<[f32; 3]>::from(s), out),
-        Reply::Density(density) => value(&[density], out),
+        Reply::Radiance(s) => out.values("value", &<[f32; 3]>::from(s)),
+        Reply::Density(density) => out.values("value", &[density]),
         Reply::Drawn(d) => drawn(d.radius, d.rounds, out),
     }
 }
@@ -58,7 +58,11 @@ fn step(r: Record, call: Call, lists: &mut Lists, out: &mut Output) -> Result<()
     Ok(())
 }
 
-pub fn start(mut line: Line<'_>, lists: &mut Lists, out: &mut Output) -> Result<(), Failure> {
+pub(crate) fn start(
+    mut line: Line<'_>,
+    lists: &mut Lists,
+    out: &mut Output,
+) -> Result<(), Failure> {
     let r = record(&mut line)?;
     line.end()?;
     match table::start(r, &mut lists.lent()) {
@@ -68,21 +72,29 @@ pub fn start(mut line: Line<'_>, lists: &mut Lists, out: &mut Output) -> Result<
     Ok(())
 }
 
-pub fn build(mut line: Line<'_>, lists: &mut Lists, out: &mut Output) -> Result<(), Failure> {
+pub(crate) fn build(
+    mut line: Line<'_>,
+    lists: &mut Lists,
+    out: &mut Output,
+) -> Result<(), Failure> {
     let r = record(&mut line)?;
     let row = line.size()?;
     line.end()?;
     step(r, Call::Build(row), lists, out)
 }
 
-pub fn sr(mut line: Line<'_>, lists: &mut Lists, out: &mut Output) -> Result<(), Failure> {
+pub(crate) fn sr(mut line: Line<'_>, lists: &mut Lists, out: &mut Output) -> Result<(), Failure> {
     let r = record(&mut line)?;
     let c = coefficients(&mut line)?;
     let x = WorldRadius(line.last()?);
     step(r, Call::Ask(Query::Sr(c, x)), lists, out)
 }
 
-pub fn pdf_sr(mut line: Line<'_>, lists: &mut Lists, out: &mut Output) -> Result<(), Failure> {
+pub(crate) fn pdf_sr(
+    mut line: Line<'_>,
+    lists: &mut Lists,
+    out: &mut Output,
+) -> Result<(), Failure> {
     let r = record(&mut line)?;
     let c = coefficients(&mut line)?;
     let ch = channel(&mut line)?;
@@ -90,7 +102,11 @@ pub fn pdf_sr(mut line: Line<'_>, lists: &mut Lists, out: &mut Output) -> Result
     step(r, Call::Ask(Query::PdfSr(ch, c, x)), lists, out)
 }
 
-pub fn sample_sr(mut line: Line<'_>, lists: &mut Lists, out: &mut Output) -> Result<(), Failure> {
+pub(crate) fn sample_sr(
+    mut line: Line<'_>,
+    lists: &mut Lists,
+    out: &mut Output,
+) -> Result<(), Failure> {
     let r = record(&mut line)?;
     let c = coefficients(&mut line)?;
     let ch = channel(&mut line)?;

@@ -3,9 +3,9 @@
 // which.
 #![tactic(auto)]
 
-pub mod free;
-pub mod lent;
-pub mod own;
+mod free;
+mod lent;
+mod own;
 
 use lists::{LENT, Lists, OWN};
 use words::{Failure, Line, Malformed, Output};

@@ -1,5 +1,5 @@
 // The calls on a caller's own lists: two of nodes, values and a CDF.
-use crate::free::{refused, value};
+use crate::free::refused;
 use interpolation::sample::Sample;
 use interpolation::weights::Weights;
 use lists::{Lists, Own};
@@ -10,10 +10,10 @@ fn tell_weights(weights: Weights, out: &mut Output) -> io::Result<()> {
     let Weights { offset, four } = weights;
     out.text("value")?;
     out.int(offset)?;
-    out.entries(&[four.w0, four.w1, four.w2, four.w3])
+    out.entries(&<[f32; 4]>::from(four))
 }
 
-pub fn weights(line: Line<'_>, lists: &mut Lists, out: &mut Output) -> Result<(), Failure> {
+pub(crate) fn weights(line: Line<'_>, lists: &mut Lists, out: &mut Output) -> Result<(), Failure> {
     let x = line.last()?;
     let Own { nodes1, .. } = lists.own();
     match interpolation::own::weights(nodes1, x) {
@@ -24,7 +24,11 @@ pub fn weights(line: Line<'_>, lists: &mut Lists, out: &mut Output) -> Result<()
     Ok(())
 }
 
-pub fn integrate(line: Line<'_>, lists: &mut Lists, out: &mut Output) -> Result<(), Failure> {
+pub(crate) fn integrate(
+    line: Line<'_>,
+    lists: &mut Lists,
+    out: &mut Output,
+) -> Result<(), Failure> {
     line.end()?;
     let Own {
         nodes1,
@@ -33,18 +37,22 @@ pub fn integrate(line: Line<'_>, lists: &mut Lists, out: &mut Output) -> Result<
         ..
     } = lists.own();
     match interpolation::own::integrate(nodes1, values, cdf) {
-        Ok(sum) => value(&[sum], out)?,
+        Ok(sum) => out.values("value", &[sum])?,
         Err(refusal) => refused(refusal, out)?,
     }
     Ok(())
 }
 
 fn tell_sample(sample: Sample, out: &mut Output) -> io::Result<()> {
-    value(&[sample.position, sample.value, sample.density], out)?;
+    out.values("value", &[sample.position, sample.value, sample.density])?;
     out.int(sample.rounds)
 }
 
-pub fn sample_2d(mut line: Line<'_>, lists: &mut Lists, out: &mut Output) -> Result<(), Failure> {
+pub(crate) fn sample_2d(
+    mut line: Line<'_>,
+    lists: &mut Lists,
+    out: &mut Output,
+) -> Result<(), Failure> {
     let [alpha, u] = line.floats::<2>()?;
     let allowance = line.int()?;
     line.end()?;

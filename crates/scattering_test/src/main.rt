@@ -112,23 +112,12 @@ fn result(line: &mut Line<'_>) -> Result<Value, Malformed> {
     }
 }
 
-fn floats(xs: &[f32], out: &mut Output) -> io::Result<()> {
-    out.text("v")?;
-    out.entries(xs)
-}
-
 fn show(value: Value, out: &mut Output) -> io::Result<()> {
     match value {
-        Value::Float(x) => floats(&[x], out),
-        Value::Whole(s) => floats(&<[f32; 3]>::from(s), out),
-        Value::Truth(is_true) => {
-            out.text("v")?;
-            out.bits(u32::from(is_true))
-        }
-        Value::Refused(refusal) => {
-            out.text("r")?;
-            out.bits(u32::from(refusal))
-        }
+        Value::Float(x) => out.values("v", &[x]),
+        Value::Whole(s) => out.values("v", &<[f32; 3]>::from(s)),
+        Value::Truth(is_true) => out.values("v", &[u32::from(is_true)]),
+        Value::Refused(refusal) => out.values("r", &[u32::from(refusal)]),
     }
 }
 

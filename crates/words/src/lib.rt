@@ -2,11 +2,11 @@
 // the text of answers on its way to standard output.
 #![tactic(auto)]
 
-pub mod entry;
-pub mod failure;
-pub mod input;
-pub mod line;
-pub mod output;
+mod entry;
+mod failure;
+mod input;
+mod line;
+mod output;
 
 pub use entry::Entry;
 pub use failure::{Failure, Malformed};

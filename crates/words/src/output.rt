@@ -12,7 +12,7 @@ pub struct Output {
 }
 
 impl Output {
-    pub fn new(alloc: Global, to: Stdout) -> io::Result<Output> {
+    pub(crate) fn new(alloc: Global, to: Stdout) -> io::Result<Output> {
         Ok(Output {
             to: BufWriter::with_capacity(alloc, 65536, to)?,
         })
@@ -44,7 +44,7 @@ impl Output {
     }
 
     // A space and 8 digits.
-    pub fn bits(&mut self, n: u32) -> io::Result<()> {
+    pub(crate) fn bits(&mut self, n: u32) -> io::Result<()> {
         self.text(" ")?;
         self.digits(n)
     }
@@ -63,12 +63,18 @@ impl Output {
         Ok(())
     }
 
-    pub fn flush(&mut self) -> io::Result<()> {
+    // A word, and the bits of each entry.
+    pub fn values<T: Entry>(&mut self, word: &str, xs: &[T]) -> io::Result<()> {
+        self.text(word)?;
+        self.entries(xs)
+    }
+
+    pub(crate) fn flush(&mut self) -> io::Result<()> {
         self.to.flush()
     }
 
     // Writes what is left, if all has gone well. A `BufWriter` that is dropped would write it anyhow.
-    pub fn end(mut self, so_far: io::Result<()>) -> io::Result<()> {
+    pub(crate) fn end(mut self, so_far: io::Result<()>) -> io::Result<()> {
         let whole = match so_far {
             Ok(()) => self.flush(),
             Err(e) => Err(e),
