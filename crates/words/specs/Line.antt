@@ -1,0 +1,59 @@
+-- The words of a line, and what they stand for. A text is a list of bytes, and what is left of a line is a text or, at its end, `None`.
+use Rattle.std.specs.Prelude.{ℕ, zero, suc, ◌+◌, ◌-◌, ◌*◌, ◌^◌, Bool, ◌&&◌, eqb, ltb, leb, List, [], ◌∷◌, length, drop, position, if◌then◌else◌, Option, Some, None, option_map, option_and_then, option_copied}
+use Rattle.std.specs.List.{before_first}
+use Rattle.words.specs.declared.line.Line.{Line}
+
+-- ---- words
+
+-- what follows the word that was read last
+abbrev pub left : Line → Option (List ℕ)
+left line = option_copied line.rest
+
+abbrev pub is_space : ℕ → Bool
+is_space c = eqb c 32
+
+-- the next word: the text up to the first space
+abbrev pub word : Option (List ℕ) → Option (List ℕ)
+word text = option_map (before_first is_space) text
+
+-- what follows that space
+abbrev pub after : Option (List ℕ) → Option (List ℕ)
+after text = option_and_then (λ t. option_map (λ i. drop (i + 1) t) (position is_space t)) text
+
+-- the same after n words
+abbrev pub after_words : ℕ → Option (List ℕ) → Option (List ℕ)
+after_words zero text = text
+after_words (suc n) text = after_words n (after text)
+
+-- ---- numbers
+
+-- a digit's value, and 16 for what is none
+abbrev pub digit_value : ℕ → ℕ
+digit_value c = if leb 48 c && leb c 57 then c - 48 else if leb 97 c && leb c 102 then c - 97 + 10 else 16
+
+-- its value, if it is one of the base
+abbrev pub digit : ℕ → ℕ → Option ℕ
+digit base c = if ltb (digit_value c) base then Some (digit_value c) else None
+
+-- the number that digits stand for, after those that stand for n
+abbrev pub number_after : ℕ → ℕ → List ℕ → Option ℕ
+number_after base n [] = Some n
+number_after base n (c ∷ cs) = option_and_then (λ d. number_after base (base * n + d) cs) (digit base c)
+
+abbrev pub number : ℕ → List ℕ → Option ℕ
+number base cs = number_after base 0 cs
+
+-- an INT
+abbrev pub int : List ℕ → Option ℕ
+int cs =
+    if ltb 0 (length cs) && leb (length cs) 10
+    then option_and_then (λ n. if ltb n (2 ^ 32) then Some n else None) (number 10 cs) else None
+
+-- n of them, and nothing where one is malformed
+abbrev pub ints : ℕ → Option (List ℕ) → Option (List ℕ)
+ints zero text = Some []
+ints (suc n) text = option_and_then (λ i. option_map (λ is. i ∷ is) (ints n (after text))) (option_and_then int (word text))
+
+-- a BITS of so many digits
+abbrev pub bits : ℕ → List ℕ → Option ℕ
+bits count cs = if eqb (length cs) count then number 16 cs else None
