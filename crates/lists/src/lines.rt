@@ -1,6 +1,12 @@
 // The answers to lines about lists.
+ghost use Rattle.std.specs.Prelude.{◌≡◌, is_some, is_none, take};
+ghost use Rattle.table.specs.Parameters.{lists_of_mut, lists_of_lent};
+ghost use Rattle.words.specs.Line.{left};
+ghost use Rattle.words.specs.Failure.{is_malformed};
+ghost use Rattle.lists.specs.Lists as Spec;
+
 use crate::hash::Hash;
-use crate::list::{AnyList, List};
+use crate::list::{AnyRoom, AnyUsed, List};
 use crate::name::{LENT, Name, OWN};
 use table::{Lent, Record, TableMut};
 use words::{Failure, Line, Malformed, Output};
@@ -55,7 +61,9 @@ impl Lists {
     }
 
     // The used parts of a table's lists.
-    pub fn lent(&mut self) -> Lent<'_> {
+    pub fn lent(&mut self) -> Lent<'_>
+        ensures { lists_of_lent result ≡ Spec.table self.old }
+    {
         Lent {
             rho_samples: self.rho.used_mut(),
             radius_samples: self.radii.used_mut(),
@@ -67,9 +75,12 @@ impl Lists {
     }
 
     // The same, with a record.
-    pub fn table(&mut self, record: Record) -> TableMut<'_> {
+    pub fn table(&mut self, r: Record) -> TableMut<'_>
+        ensures given { result.record ≡ r }
+        ensures lists { lists_of_mut result ≡ Spec.table self.old }
+    {
         TableMut {
-            record,
+            record: r,
             rho_samples: self.rho.used_mut(),
             radius_samples: self.radii.used_mut(),
             profile: self.profile.used_mut(),
@@ -88,62 +99,91 @@ impl Lists {
         }
     }
 
-    // The list of a name, whole.
-    fn list(&mut self, name: Name) -> AnyList<'_> {
+    // The list of a name, to be read.
+    fn list(&self, name: Name) -> AnyUsed<'_> {
         match name {
-            Name::Rho => AnyList::Floats(self.rho.whole()),
-            Name::Radii => AnyList::Floats(self.radii.whole()),
-            Name::Profile => AnyList::Floats(self.profile.whole()),
-            Name::Eff => AnyList::Floats(self.eff.whole()),
-            Name::Cdf => AnyList::Floats(self.cdf.whole()),
-            Name::Marks => AnyList::Bytes(self.marks.whole()),
-            Name::Nodes1 => AnyList::Floats(self.nodes1.whole()),
-            Name::Nodes2 => AnyList::Floats(self.nodes2.whole()),
-            Name::Values => AnyList::Floats(self.values.whole()),
-            Name::OwnCdf => AnyList::Floats(self.own_cdf.whole()),
+            Name::Rho => AnyUsed::Floats(self.rho.used()),
+            Name::Radii => AnyUsed::Floats(self.radii.used()),
+            Name::Profile => AnyUsed::Floats(self.profile.used()),
+            Name::Eff => AnyUsed::Floats(self.eff.used()),
+            Name::Cdf => AnyUsed::Floats(self.cdf.used()),
+            Name::Marks => AnyUsed::Bytes(self.marks.used()),
+            Name::Nodes1 => AnyUsed::Floats(self.nodes1.used()),
+            Name::Nodes2 => AnyUsed::Floats(self.nodes2.used()),
+            Name::Values => AnyUsed::Floats(self.values.used()),
+            Name::OwnCdf => AnyUsed::Floats(self.own_cdf.used()),
         }
     }
 
-    fn set_lens(&mut self, names: &[Name], lens: &[u32]) -> Result<(), Malformed> {
-        for (name, len) in names.iter().zip(lens) {
-            self.list(*name).check_len(*len)?;
+    // The same whole, to be written.
+    fn room_mut(&mut self, name: Name) -> AnyRoom<'_> {
+        match name {
+            Name::Rho => AnyRoom::Floats(self.rho.room_mut()),
+            Name::Radii => AnyRoom::Floats(self.radii.room_mut()),
+            Name::Profile => AnyRoom::Floats(self.profile.room_mut()),
+            Name::Eff => AnyRoom::Floats(self.eff.room_mut()),
+            Name::Cdf => AnyRoom::Floats(self.cdf.room_mut()),
+            Name::Marks => AnyRoom::Bytes(self.marks.room_mut()),
+            Name::Nodes1 => AnyRoom::Floats(self.nodes1.room_mut()),
+            Name::Nodes2 => AnyRoom::Floats(self.nodes2.room_mut()),
+            Name::Values => AnyRoom::Floats(self.values.room_mut()),
+            Name::OwnCdf => AnyRoom::Floats(self.own_cdf.room_mut()),
         }
-        for (name, len) in names.iter().zip(lens) {
-            self.list(*name).set_len(*len);
-        }
-        Ok(())
     }
 
-    // Not one function of any number of lists: of an array whose length is a parameter it is not
-    // proved that it is small enough for memory.
-    pub fn lens(&mut self, mut line: Line<'_>, out: &mut Output) -> Result<(), Failure> {
-        let lens = line.ints::<6>()?;
+    // The lengths of a table's lists.
+    pub fn lens(&mut self, mut line: Line<'_>, out: &mut Output) -> Result<(), Failure>
+        ensures lists { self.new ≡ Spec.lens (left line.entry) self.old }
+        ensures malformed { is_malformed result ≡ is_none (Spec.lens_of (left line.entry)) }
+    {
+        let [rho, radii, profile, eff, cdf, marks] = line.ints::<6>()?;
         line.end()?;
-        self.set_lens(&LENT, &lens)?;
+        self.rho.check_len(rho)?;
+        self.radii.check_len(radii)?;
+        self.profile.check_len(profile)?;
+        self.eff.check_len(eff)?;
+        self.cdf.check_len(cdf)?;
+        self.marks.check_len(marks)?;
+        self.rho.set_len(rho);
+        self.radii.set_len(radii);
+        self.profile.set_len(profile);
+        self.eff.set_len(eff);
+        self.cdf.set_len(cdf);
+        self.marks.set_len(marks);
         Ok(out.text("ok")?)
     }
 
-    pub fn own_lens(&mut self, mut line: Line<'_>, out: &mut Output) -> Result<(), Failure> {
-        let lens = line.ints::<4>()?;
+    pub fn own_lens(&mut self, mut line: Line<'_>, out: &mut Output) -> Result<(), Failure>
+        ensures lists { self.new ≡ Spec.own_lens (left line.entry) self.old }
+        ensures malformed { is_malformed result ≡ is_none (Spec.own_lens_of (left line.entry)) }
+    {
+        let [nodes1, nodes2, values, cdf] = line.ints::<4>()?;
         line.end()?;
-        self.set_lens(&OWN, &lens)?;
+        self.nodes1.check_len(nodes1)?;
+        self.nodes2.check_len(nodes2)?;
+        self.values.check_len(values)?;
+        self.own_cdf.check_len(cdf)?;
+        self.nodes1.set_len(nodes1);
+        self.nodes2.set_len(nodes2);
+        self.values.set_len(values);
+        self.own_cdf.set_len(cdf);
         Ok(out.text("ok")?)
     }
 
     pub fn put(&mut self, mut line: Line<'_>, out: &mut Output) -> Result<(), Failure> {
         let name = Name::try_from(line.int()?)?;
         let from = line.size()?;
-        self.list(name).put(from, line)?;
+        self.room_mut(name).put(from, line)?;
         Ok(out.text("ok")?)
     }
 
     pub fn fill(&mut self, mut line: Line<'_>, out: &mut Output) -> Result<(), Failure> {
         let name = Name::try_from(line.int()?)?;
-        self.list(name).fill(line)?;
+        self.room_mut(name).fill(line)?;
         Ok(out.text("ok")?)
     }
 
-    pub fn show(&mut self, mut line: Line<'_>, out: &mut Output) -> Result<(), Failure> {
+    pub fn show(&self, mut line: Line<'_>, out: &mut Output) -> Result<(), Failure> {
         let number = line.int()?;
         let name = Name::try_from(number)?;
         line.end()?;
@@ -153,12 +193,9 @@ impl Lists {
     }
 
     // A hash of these lists.
-    pub fn dump(
-        &mut self,
-        names: &[Name],
-        line: Line<'_>,
-        out: &mut Output,
-    ) -> Result<(), Failure> {
+    pub fn dump(&self, names: &[Name], line: Line<'_>, out: &mut Output) -> Result<(), Failure>
+        ensures { is_malformed result ≡ is_some (left line.entry) }
+    {
         line.end()?;
         let mut hash = Hash::new();
         for name in names {
@@ -169,7 +206,9 @@ impl Lists {
     }
 
     // The table's lists whole.
-    pub fn dump_all(&mut self, line: Line<'_>, out: &mut Output) -> Result<(), Failure> {
+    pub fn dump_all(&self, line: Line<'_>, out: &mut Output) -> Result<(), Failure>
+        ensures { is_malformed result ≡ is_some (left line.entry) }
+    {
         line.end()?;
         out.text("lists")?;
         for name in LENT {

@@ -1,5 +1,7 @@
 // A list: its capacity's room, and its length. What lies beyond the length stays as it is, and the
 // memory is fixed, so the room is an array beside a length and no `Vec`.
+ghost use Rattle.std.specs.Prelude.{◌≡◌, take, leb, is_ok};
+
 use crate::hash::Hash;
 use std::io;
 use words::{Entry, Line, Malformed, Output};
@@ -18,123 +20,124 @@ impl<T: Entry, const N: usize> List<T, N> {
         }
     }
 
-    pub(crate) fn used_mut(&mut self) -> &mut [T] {
+    pub(crate) fn used_mut(&mut self) -> &mut [T]
+        ensures { result.now ≡ take self.old.len self.old.room }
+    {
         let n = N.min(self.len as usize);
         &mut self.room[..n]
     }
 
-    pub(crate) fn whole(&mut self) -> Whole<'_, T> {
-        Whole {
-            room: &mut self.room[..],
-            len: &mut self.len,
+    pub(crate) fn used(&self) -> Used<'_, T> {
+        let n = N.min(self.len as usize);
+        Used {
+            len: self.len,
+            entries: &self.room[..n],
         }
     }
-}
 
-// A list of any capacity.
-#[derive(Drop)]
-pub(crate) struct Whole<'a, T> {
-    room: &'a mut [T],
-    len: &'a mut u32,
-}
-
-impl<'a, T: Entry> Whole<'a, T> {
-    fn used(&self) -> &[T] {
-        let n = self.room.len().min(*self.len as usize);
-        &self.room[..n]
+    pub(crate) fn room_mut(&mut self) -> &mut [T] {
+        &mut self.room[..]
     }
 
-    fn check_len(&self, len: u32) -> Result<(), Malformed> {
-        if len as usize <= self.room.len() {
+    pub(crate) fn check_len(&self, len: u32) -> Result<(), Malformed>
+        ensures { is_ok result ≡ leb len N }
+    {
+        if len as usize <= N {
             Ok(())
         } else {
             Err(Malformed)
         }
     }
 
-    fn set_len(&mut self, len: u32) {
-        *self.len = len;
+    pub(crate) fn set_len(&mut self, len: u32)
+        ensures { self.new ≡ record self.old { len = len } }
+    {
+        self.len = len;
     }
+}
 
-    // Stores entries from a place on, if they end within the capacity.
-    fn put(&mut self, from: usize, entries: &[T]) -> Result<(), Malformed> {
-        let after = self.room.get_mut(from..).ok_or(Malformed)?;
-        let places = after.get_mut(..entries.len()).ok_or(Malformed)?;
-        places.copy_from_slice(entries);
-        Ok(())
-    }
+// The used part of a list of any capacity.
+#[derive(Drop)]
+pub(crate) struct Used<'a, T> {
+    len: u32,
+    entries: &'a [T],
+}
 
-    // Fills the whole capacity. By hand, since std's `fill` at a type parameter asks that no clone can
-    // fail.
-    fn fill(&mut self, entry: T) {
-        for place in self.room.iter_mut() {
-            *place = entry;
-        }
-    }
-
+impl<T: Entry> Used<'_, T> {
     // Writes the length and the entries.
-    fn show(&mut self, out: &mut Output) -> io::Result<()> {
-        out.int(*self.len)?;
-        out.entries(self.used())
+    fn show(&self, out: &mut Output) -> io::Result<()> {
+        out.int(self.len)?;
+        out.entries(self.entries)
     }
 
     // Joins the length and the entries to a hash.
-    fn join(&mut self, hash: &mut Hash) {
-        hash.join(*self.len);
-        for x in self.used() {
+    fn join(&self, hash: &mut Hash) {
+        hash.join(self.len);
+        for x in self.entries {
             hash.join(x.bits());
         }
     }
 }
 
-// A list of any capacity and any entries.
+// The same of any entries.
 #[derive(Drop)]
-pub(crate) enum AnyList<'a> {
-    Floats(Whole<'a, f32>),
-    Bytes(Whole<'a, u8>),
+pub(crate) enum AnyUsed<'a> {
+    Floats(Used<'a, f32>),
+    Bytes(Used<'a, u8>),
 }
 
-impl<'a> AnyList<'a> {
-    pub(crate) fn check_len(&mut self, len: u32) -> Result<(), Malformed> {
+impl AnyUsed<'_> {
+    pub(crate) fn show(&self, out: &mut Output) -> io::Result<()> {
         match self {
-            AnyList::Floats(list) => list.check_len(len),
-            AnyList::Bytes(list) => list.check_len(len),
+            AnyUsed::Floats(list) => list.show(out),
+            AnyUsed::Bytes(list) => list.show(out),
         }
     }
 
-    pub(crate) fn set_len(&mut self, len: u32) {
+    pub(crate) fn join(&self, hash: &mut Hash) {
         match self {
-            AnyList::Floats(list) => list.set_len(len),
-            AnyList::Bytes(list) => list.set_len(len),
+            AnyUsed::Floats(list) => list.join(hash),
+            AnyUsed::Bytes(list) => list.join(hash),
+        }
+    }
+}
+
+// Stores entries from a place on, if they end within the capacity.
+fn put<T: Entry>(room: &mut [T], from: usize, entries: &[T]) -> Result<(), Malformed> {
+    let after = room.get_mut(from..).ok_or(Malformed)?;
+    let places = after.get_mut(..entries.len()).ok_or(Malformed)?;
+    places.copy_from_slice(entries);
+    Ok(())
+}
+
+// Fills the whole capacity. By hand, since std's `fill` at a type parameter asks that no clone can
+// fail.
+fn fill<T: Entry>(room: &mut [T], entry: T) {
+    for place in room.iter_mut() {
+        *place = entry;
+    }
+}
+
+// The room of a list of any capacity and any entries.
+#[derive(Drop)]
+pub(crate) enum AnyRoom<'a> {
+    Floats(&'a mut [f32]),
+    Bytes(&'a mut [u8]),
+}
+
+impl AnyRoom<'_> {
+    pub(crate) fn put(self, from: usize, line: Line<'_>) -> Result<(), Malformed> {
+        match self {
+            AnyRoom::Floats(room) => put(room, from, line.entries()?.as_slice()),
+            AnyRoom::Bytes(room) => put(room, from, line.entries()?.as_slice()),
         }
     }
 
-    pub(crate) fn put(&mut self, from: usize, line: Line<'_>) -> Result<(), Malformed> {
+    pub(crate) fn fill(self, line: Line<'_>) -> Result<(), Malformed> {
         match self {
-            AnyList::Floats(list) => list.put(from, line.entries()?.as_slice()),
-            AnyList::Bytes(list) => list.put(from, line.entries()?.as_slice()),
-        }
-    }
-
-    pub(crate) fn fill(&mut self, line: Line<'_>) -> Result<(), Malformed> {
-        match self {
-            AnyList::Floats(list) => list.fill(line.last()?),
-            AnyList::Bytes(list) => list.fill(line.last()?),
+            AnyRoom::Floats(room) => fill(room, line.last()?),
+            AnyRoom::Bytes(room) => fill(room, line.last()?),
         }
         Ok(())
-    }
-
-    pub(crate) fn show(&mut self, out: &mut Output) -> io::Result<()> {
-        match self {
-            AnyList::Floats(list) => list.show(out),
-            AnyList::Bytes(list) => list.show(out),
-        }
-    }
-
-    pub(crate) fn join(&mut self, hash: &mut Hash) {
-        match self {
-            AnyList::Floats(list) => list.join(hash),
-            AnyList::Bytes(list) => list.join(hash),
-        }
     }
 }

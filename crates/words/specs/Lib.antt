@@ -1,2 +1,3 @@
 -- The definitions that the contracts of `words` cite.
 pub mod Line
+pub mod Failure
