@@ -79,18 +79,27 @@ impl Lists {
         ensures given { result.record ≡ r }
         ensures lists { lists_of_mut result ≡ Spec.table self.old }
     {
+        let lent = self.lent();
+        // lent on as `&`, which wants variables
+        let rho_samples = lent.rho_samples;
+        let radius_samples = lent.radius_samples;
         TableMut {
             record: r,
-            rho_samples: self.rho.used_mut(),
-            radius_samples: self.radii.used_mut(),
-            profile: self.profile.used_mut(),
-            rho_eff: self.eff.used_mut(),
-            profile_cdf: self.cdf.used_mut(),
-            marks: self.marks.used_mut(),
+            rho_samples,
+            radius_samples,
+            profile: lent.profile,
+            rho_eff: lent.rho_eff,
+            profile_cdf: lent.profile_cdf,
+            marks: lent.marks,
         }
     }
 
-    pub fn own(&mut self) -> Own<'_> {
+    pub fn own(&mut self) -> Own<'_>
+        ensures nodes1 { result.nodes1.now ≡ take self.old.nodes1.len self.old.nodes1.room }
+        ensures nodes2 { result.nodes2.now ≡ take self.old.nodes2.len self.old.nodes2.room }
+        ensures values { result.values.now ≡ take self.old.values.len self.old.values.room }
+        ensures cdf { result.cdf.now ≡ take self.old.own_cdf.len self.old.own_cdf.room }
+    {
         Own {
             nodes1: self.nodes1.used_mut(),
             nodes2: self.nodes2.used_mut(),

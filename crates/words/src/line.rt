@@ -3,7 +3,7 @@
 // 4294967295; a BITS is 8 hexadecimal digits in lower case, or 16.
 ghost use Rattle.std.specs.Prelude.{◌≡◌, ℕ, ◌<◌, ◌≤◌, ◌^◌, length, IfSome, IfOk, is_ok, is_none, position, option_copied, option_map, option_and_then, if◌then◌else◌, from_bits};
 ghost use Rattle.std.specs.Result.{result_ok};
-ghost use Rattle.std.specs.Float.{binary64};
+ghost use Rattle.std.specs.Float.{binary32, binary64};
 ghost use Rattle.words.specs.Line as Spec;
 
 use crate::entry::Entry;
@@ -128,7 +128,10 @@ impl<'a> Line<'a> {
         Ok(ns)
     }
 
-    pub fn size(&mut self) -> Result<usize, Malformed> {
+    pub fn size(&mut self) -> Result<usize, Malformed>
+        ensures int { result_ok result ≡ option_and_then Spec.int (Spec.word (Spec.left self.old)) }
+        ensures rest { Spec.left self.new ≡ Spec.after (Spec.left self.old) }
+    {
         Ok(self.int()? as usize)
     }
 
@@ -139,7 +142,10 @@ impl<'a> Line<'a> {
         entry(self.word()?)
     }
 
-    pub fn float(&mut self) -> Result<f32, Malformed> {
+    pub fn float(&mut self) -> Result<f32, Malformed>
+        ensures float { result_ok result ≡ option_map (from_bits binary32) (option_and_then (Spec.bits 8) (Spec.word (Spec.left self.old))) }
+        ensures rest { Spec.left self.new ≡ Spec.after (Spec.left self.old) }
+    {
         self.entry()
     }
 

@@ -1,5 +1,6 @@
 // The text of answers. It gathers in a buffer, and goes to standard output when that is full and
-// before more input is read.
+// before more input is read. What is written has no contract, since std has no word for the bytes that
+// a writer took.
 use crate::entry::Entry;
 use std::alloc::Global;
 use std::fmt::Display;
