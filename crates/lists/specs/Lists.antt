@@ -1,7 +1,7 @@
 -- The ten lists: what they lend, and what a line of lengths makes of them.
 use Rattle.std.specs.Prelude.{ℕ, suc, Bool, true, ◌&&◌, leb, is_none, List, [], ◌∷◌, length, take, slice_index, if◌then◌else◌, Option, Some, None, option_and_then}
 use Rattle.std.specs.Option.{option_map_or}
-use Rattle.words.specs.Line.{after_words, ints}
+use Rattle.words.specs.Line.{after_words, int, nexts}
 use Rattle.table.specs.Parameters as Table
 use Rattle.lists.specs.declared.lines.Lists.{Lists}
 use Rattle.lists.specs.declared.lines.TheConstants.{ROWS, RADII, CELLS}
@@ -22,7 +22,7 @@ within i (most ∷ all) ns = leb (slice_index ns i) most && within (suc i) all n
 -- as many numbers as there are bounds, each within its own, if they end the line
 abbrev pub numbers_within : List ℕ → Option (List ℕ) → Option (List ℕ)
 numbers_within bounds text =
-    option_and_then (λ ns. if is_none (after_words (length bounds) text) && within 0 bounds ns then Some ns else None) (ints (length bounds) text)
+    option_and_then (λ ns. if is_none (after_words (length bounds) text) && within 0 bounds ns then Some ns else None) (nexts int (length bounds) text)
 
 -- the lengths that a line gives to a table's lists, each at most the capacity
 abbrev pub lens_of : Option (List ℕ) → Option (List ℕ)

@@ -9,7 +9,7 @@ use crate::hash::Hash;
 use crate::list::{AnyRoom, AnyUsed, List};
 use crate::name::{LENT, Name, OWN};
 use table::{Lent, Record, TableMut};
-use words::{Failure, Line, Malformed, Output};
+use words::{Failure, Line, Output};
 
 // The capacities: of the lists with an entry for each albedo, of the radius nodes, and of the lists
 // with an entry for each of both.

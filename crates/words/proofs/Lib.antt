@@ -1,2 +1,2 @@
 mod Digits
-mod Ints
+mod InTurn

@@ -1,6 +1,7 @@
 -- The words of a line, and what they stand for. A text is a list of bytes, and what is left of a line is a text or, at its end, `None`.
-use Rattle.std.specs.Prelude.{ℕ, zero, suc, ◌+◌, ◌-◌, ◌*◌, ◌^◌, Bool, ◌&&◌, eqb, ltb, leb, List, [], ◌∷◌, length, drop, position, if◌then◌else◌, Option, Some, None, option_map, option_and_then, option_copied}
+use Rattle.std.specs.Prelude.{ℕ, zero, suc, ◌+◌, ◌-◌, ◌*◌, ◌^◌, Bool, ◌&&◌, eqb, ltb, leb, List, [], ◌∷◌, length, drop, position, if◌then◌else◌, Option, Some, None, option_map, option_and_then, option_copied, Float, from_bits}
 use Rattle.std.specs.List.{before_first}
+use Rattle.std.specs.Float.{binary32, binary64}
 use Rattle.words.specs.declared.line.Line.{Line}
 
 -- ---- words
@@ -49,11 +50,27 @@ int cs =
     if ltb 0 (length cs) && leb (length cs) 10
     then option_and_then (λ n. if ltb n (2 ^ 32) then Some n else None) (number 10 cs) else None
 
--- n of them, and nothing where one is malformed
-abbrev pub ints : ℕ → Option (List ℕ) → Option (List ℕ)
-ints zero text = Some []
-ints (suc n) text = option_and_then (λ i. option_map (λ is. i ∷ is) (ints n (after text))) (option_and_then int (word text))
-
 -- a BITS of so many digits
 abbrev pub bits : ℕ → List ℕ → Option ℕ
 bits count cs = if eqb (length cs) count then number 16 cs else None
+
+-- ---- what a word stands for
+
+-- an entry, by what its 8 digits stand for
+abbrev pub entry : {T : Type 0} → (ℕ → Option T) → List ℕ → Option T
+entry of_bits cs = option_and_then of_bits (bits 8 cs)
+
+abbrev pub float : List ℕ → Option Float
+float cs = option_map (from_bits binary32) (bits 8 cs)
+
+abbrev pub double : List ℕ → Option Float
+double cs = option_map (from_bits binary64) (bits 16 cs)
+
+-- the next word, as f reads it
+abbrev pub next : {A : Type 0} → (List ℕ → Option A) → Option (List ℕ) → Option A
+next f text = option_and_then f (word text)
+
+-- the next n words, and nothing where one is malformed
+abbrev pub nexts : {A : Type 0} → (List ℕ → Option A) → ℕ → Option (List ℕ) → Option (List A)
+nexts f zero text = Some []
+nexts f (suc n) text = option_and_then (λ x. option_map (λ xs. x ∷ xs) (nexts f n (after text))) (next f text)

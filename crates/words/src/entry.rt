@@ -1,5 +1,5 @@
 // What a BITS of 8 digits stands for.
-ghost use Rattle.std.specs.Prelude.{◌≡◌, ℕ, ◌<◌, ◌^◌, ltb, if◌then◌else◌, Option, from_bits, Some, None};
+ghost use Rattle.std.specs.Prelude.{◌≡◌, ℕ, ltb, if◌then◌else◌, Option, from_bits, Some, None};
 ghost use Rattle.std.specs.Result.{result_ok};
 ghost use Rattle.std.specs.Float.{binary32};
 

@@ -1,9 +1,8 @@
 // Lines. The words of a line are separated by one space, with none before the first or after the last.
 // The first is the line's name, and the others are numbers. An INT is 1 to 10 decimal digits, at most
 // 4294967295; a BITS is 8 hexadecimal digits in lower case, or 16.
-ghost use Rattle.std.specs.Prelude.{◌≡◌, ℕ, ◌<◌, ◌≤◌, ◌^◌, length, IfSome, IfOk, is_ok, is_none, position, option_copied, option_map, option_and_then, if◌then◌else◌, from_bits};
+ghost use Rattle.std.specs.Prelude.{◌≡◌, ◌<◌, ◌≤◌, ◌^◌, length, IfSome, IfOk, is_ok, is_none, position, option_copied, if◌then◌else◌};
 ghost use Rattle.std.specs.Result.{result_ok};
-ghost use Rattle.std.specs.Float.{binary32, binary64};
 ghost use Rattle.words.specs.Line as Spec;
 
 use crate::entry::Entry;
@@ -73,7 +72,7 @@ fn bits<const COUNT: usize>(word: &[u8]) -> Option<u64>
 
 // A BITS of 8 digits.
 fn entry<T: Entry>(word: &[u8]) -> Result<T, Malformed>
-    ensures { result_ok result ≡ option_and_then T.of_bits (Spec.bits 8 word.now) }
+    ensures { result_ok result ≡ Spec.entry T.of_bits word.now }
 {
     let n = bits::<8>(word).ok_or(Malformed)?;
     T::from_bits(u32::try_from(n).map_err(|_| Malformed)?)
@@ -111,14 +110,14 @@ impl<'a> Line<'a> {
     }
 
     pub fn int(&mut self) -> Result<u32, Malformed>
-        ensures int { result_ok result ≡ option_and_then Spec.int (Spec.word (Spec.left self.old)) }
+        ensures int { result_ok result ≡ Spec.next Spec.int (Spec.left self.old) }
         ensures rest { Spec.left self.new ≡ Spec.after (Spec.left self.old) }
     {
         int(self.word()?).ok_or(Malformed)
     }
 
     pub fn ints<const N: usize>(&mut self) -> Result<[u32; N], Malformed>
-        ensures ints { result_ok result ≡ Spec.ints N (Spec.left self.old) }
+        ensures ints { result_ok result ≡ Spec.nexts Spec.int N (Spec.left self.old) }
         ensures rest { IfOk result (λ _. Spec.left self.new ≡ Spec.after_words N (Spec.left self.old)) }
     {
         let mut ns = [0; N];
@@ -129,27 +128,30 @@ impl<'a> Line<'a> {
     }
 
     pub fn size(&mut self) -> Result<usize, Malformed>
-        ensures int { result_ok result ≡ option_and_then Spec.int (Spec.word (Spec.left self.old)) }
+        ensures int { result_ok result ≡ Spec.next Spec.int (Spec.left self.old) }
         ensures rest { Spec.left self.new ≡ Spec.after (Spec.left self.old) }
     {
         Ok(self.int()? as usize)
     }
 
     pub fn entry<T: Entry>(&mut self) -> Result<T, Malformed>
-        ensures entry { result_ok result ≡ option_and_then (λ w. option_and_then T.of_bits (Spec.bits 8 w)) (Spec.word (Spec.left self.old)) }
+        ensures entry { result_ok result ≡ Spec.next (Spec.entry T.of_bits) (Spec.left self.old) }
         ensures rest { Spec.left self.new ≡ Spec.after (Spec.left self.old) }
     {
         entry(self.word()?)
     }
 
     pub fn float(&mut self) -> Result<f32, Malformed>
-        ensures float { result_ok result ≡ option_map (from_bits binary32) (option_and_then (Spec.bits 8) (Spec.word (Spec.left self.old))) }
+        ensures float { result_ok result ≡ Spec.next Spec.float (Spec.left self.old) }
         ensures rest { Spec.left self.new ≡ Spec.after (Spec.left self.old) }
     {
         self.entry()
     }
 
-    pub fn floats<const N: usize>(&mut self) -> Result<[f32; N], Malformed> {
+    pub fn floats<const N: usize>(&mut self) -> Result<[f32; N], Malformed>
+        ensures floats { result_ok result ≡ Spec.nexts Spec.float N (Spec.left self.old) }
+        ensures rest { IfOk result (λ _. Spec.left self.new ≡ Spec.after_words N (Spec.left self.old)) }
+    {
         let mut xs = [0.0; N];
         for x in xs.iter_mut() {
             *x = self.float()?;
@@ -159,7 +161,7 @@ impl<'a> Line<'a> {
 
     // A float of 64 bits, which is a BITS of 16 digits.
     pub fn double(&mut self) -> Result<f64, Malformed>
-        ensures double { result_ok result ≡ option_map (from_bits binary64) (option_and_then (Spec.bits 16) (Spec.word (Spec.left self.old))) }
+        ensures double { result_ok result ≡ Spec.next Spec.double (Spec.left self.old) }
         ensures rest { Spec.left self.new ≡ Spec.after (Spec.left self.old) }
     {
         let n = bits::<16>(self.word()?).ok_or(Malformed)?;
@@ -178,7 +180,7 @@ impl<'a> Line<'a> {
 
     // One entry, with which the line ends.
     pub fn last<T: Entry>(mut self) -> Result<T, Malformed>
-        ensures { result_ok result ≡ (if is_none (Spec.after (Spec.left self.entry)) then option_and_then (λ w. option_and_then T.of_bits (Spec.bits 8 w)) (Spec.word (Spec.left self.entry)) else None) }
+        ensures { result_ok result ≡ (if is_none (Spec.after (Spec.left self.entry)) then Spec.next (Spec.entry T.of_bits) (Spec.left self.entry) else None) }
     {
         let x = self.entry()?;
         self.end()?;
