@@ -1,10 +1,12 @@
 -- The ten lists: what they lend, and what a line of lengths makes of them.
-use Rattle.std.specs.Prelude.{ℕ, suc, Bool, true, ◌&&◌, leb, is_none, List, [], ◌∷◌, length, take, slice_index, if◌then◌else◌, Option, Some, None, option_and_then}
+use Rattle.std.specs.Prelude.{ℕ, Bool, true, ◌&&◌, leb, is_none, List, [], ◌∷◌, length, take, if◌then◌else◌, Option, Some, None, option_and_then}
 use Rattle.std.specs.Option.{option_map_or}
 use Rattle.words.specs.Line.{after_words, int, nexts}
 use Rattle.table.specs.Parameters as Table
 use Rattle.lists.specs.declared.lines.Lists.{Lists}
-use Rattle.lists.specs.declared.lines.TheConstants.{ROWS, RADII, CELLS}
+use Rattle.lists.specs.declared.name.Name.{Name}
+use Rattle.lists.specs.declared.name.Name.TheVariants.{Rho, Radii, Profile, Eff, Cdf, Marks, Nodes1, Nodes2, Values, OwnCdf}
+use Rattle.lists.specs.declared.name.TheConstants.{ROWS, RADII, CELLS}
 
 -- the used parts of a table's lists
 abbrev pub table : Lists → Table.Lists
@@ -14,41 +16,49 @@ table l =
 
 -- ---- lengths
 
--- each number from place i on is at most its bound
-abbrev pub within : ℕ → List ℕ → List ℕ → Bool
-within i [] ns = true
-within i (most ∷ all) ns = leb (slice_index ns i) most && within (suc i) all ns
+-- for how many entries a list has room
+abbrev pub capacity : Name → ℕ
+capacity Rho = ROWS
+capacity Radii = RADII
+capacity Profile = CELLS
+capacity Eff = ROWS
+capacity Cdf = CELLS
+capacity Marks = ROWS
+capacity Nodes1 = ROWS
+capacity Nodes2 = ROWS
+capacity Values = CELLS
+capacity OwnCdf = CELLS
 
--- as many numbers as there are bounds, each within its own, if they end the line
-abbrev pub numbers_within : List ℕ → Option (List ℕ) → Option (List ℕ)
-numbers_within bounds text =
-    option_and_then (λ ns. if is_none (after_words (length bounds) text) && within 0 bounds ns then Some ns else None) (nexts int (length bounds) text)
+-- the lists with another length of this one
+abbrev pub set_len : Name → ℕ → Lists → Lists
+set_len Rho n l = record l { rho = record l.rho { len = n } }
+set_len Radii n l = record l { radii = record l.radii { len = n } }
+set_len Profile n l = record l { profile = record l.profile { len = n } }
+set_len Eff n l = record l { eff = record l.eff { len = n } }
+set_len Cdf n l = record l { cdf = record l.cdf { len = n } }
+set_len Marks n l = record l { marks = record l.marks { len = n } }
+set_len Nodes1 n l = record l { nodes1 = record l.nodes1 { len = n } }
+set_len Nodes2 n l = record l { nodes2 = record l.nodes2 { len = n } }
+set_len Values n l = record l { values = record l.values { len = n } }
+set_len OwnCdf n l = record l { own_cdf = record l.own_cdf { len = n } }
 
--- the lengths that a line gives to a table's lists, each at most the capacity
-abbrev pub lens_of : Option (List ℕ) → Option (List ℕ)
-lens_of text = numbers_within (ROWS ∷ RADII ∷ CELLS ∷ ROWS ∷ CELLS ∷ ROWS ∷ []) text
+-- each number is at most the capacity of its list
+abbrev pub within : List Name → List ℕ → Bool
+within (name ∷ names) (n ∷ ns) = leb n (capacity name) && within names ns
+within [] ns = true
+within (name ∷ names) [] = true
+
+-- the lists with these lengths
+abbrev pub set_lens : List Name → List ℕ → Lists → Lists
+set_lens (name ∷ names) (n ∷ ns) l = set_lens names ns (set_len name n l)
+set_lens [] ns l = l
+set_lens (name ∷ names) [] l = l
+
+-- the lengths that a line gives to these lists: as many numbers as there are names, each within its capacity, if they end the line
+abbrev pub lens_of : List Name → Option (List ℕ) → Option (List ℕ)
+lens_of names text =
+    option_and_then (λ ns. if is_none (after_words (length names) text) && within names ns then Some ns else None) (nexts int (length names) text)
 
 -- the lists with them, or as they were where there are none
-abbrev pub lens : Option (List ℕ) → Lists → Lists
-lens text l =
-    option_map_or (λ ns. record l {
-      rho = record l.rho { len = slice_index ns 0 };
-      radii = record l.radii { len = slice_index ns 1 };
-      profile = record l.profile { len = slice_index ns 2 };
-      eff = record l.eff { len = slice_index ns 3 };
-      cdf = record l.cdf { len = slice_index ns 4 };
-      marks = record l.marks { len = slice_index ns 5 };
-    }) (lens_of text) l
-
--- the same of a caller's own
-abbrev pub own_lens_of : Option (List ℕ) → Option (List ℕ)
-own_lens_of text = numbers_within (ROWS ∷ ROWS ∷ CELLS ∷ CELLS ∷ []) text
-
-abbrev pub own_lens : Option (List ℕ) → Lists → Lists
-own_lens text l =
-    option_map_or (λ ns. record l {
-      nodes1 = record l.nodes1 { len = slice_index ns 0 };
-      nodes2 = record l.nodes2 { len = slice_index ns 1 };
-      values = record l.values { len = slice_index ns 2 };
-      own_cdf = record l.own_cdf { len = slice_index ns 3 };
-    }) (own_lens_of text) l
+abbrev pub lens : List Name → Option (List ℕ) → Lists → Lists
+lens names text l = option_map_or (λ ns. set_lens names ns l) (lens_of names text) l

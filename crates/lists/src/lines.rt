@@ -1,5 +1,5 @@
 // The answers to lines about lists.
-ghost use Rattle.std.specs.Prelude.{◌≡◌, is_some, is_none, take};
+ghost use Rattle.std.specs.Prelude.{◌≡◌, ◌≤◌, is_ok, is_some, is_none, leb, length, take};
 ghost use Rattle.table.specs.Parameters.{lists_of_mut, lists_of_lent};
 ghost use Rattle.words.specs.Line.{left};
 ghost use Rattle.words.specs.Failure.{is_malformed};
@@ -7,17 +7,9 @@ ghost use Rattle.lists.specs.Lists as Spec;
 
 use crate::hash::Hash;
 use crate::list::{AnyRoom, AnyUsed, List};
-use crate::name::{LENT, Name, OWN};
+use crate::name::{CELLS, LENT, Name, RADII, ROWS};
 use table::{Lent, Record, TableMut};
 use words::{Failure, Line, Output};
-
-// The capacities: of the lists with an entry for each albedo, of the radius nodes, and of the lists
-// with an entry for each of both.
-const ROWS: usize = 130;
-
-const RADII: usize = 66;
-
-const CELLS: usize = 8580;
 
 // A table's six lists, and a caller's own: two lists of nodes, values and a CDF.
 #[derive(Drop)]
@@ -41,6 +33,18 @@ pub struct Own<'a> {
     pub nodes2: &'a mut [f32],
     pub values: &'a mut [f32],
     pub cdf: &'a mut [f32],
+}
+
+// Each list has room for so many entries.
+fn check_lens(names: &[Name], lens: &[u32]) -> Result<(), Malformed>
+    ensures { is_ok result ≡ Spec.within names.now lens.now }
+{
+    for (name, len) in names.iter().zip(lens) {
+        if *len as usize > name.capacity() {
+            return Err(Malformed);
+        }
+    }
+    Ok(())
 }
 
 impl Lists {
@@ -140,42 +144,46 @@ impl Lists {
         }
     }
 
-    // The lengths of a table's lists.
-    pub fn lens(&mut self, mut line: Line<'_>, out: &mut Output) -> Result<(), Failure>
-        ensures lists { self.new ≡ Spec.lens (left line.entry) self.old }
-        ensures malformed { is_malformed result ≡ is_none (Spec.lens_of (left line.entry)) }
+    fn set_len(&mut self, name: Name, len: u32)
+        ensures { self.new ≡ Spec.set_len name len self.old }
     {
-        let [rho, radii, profile, eff, cdf, marks] = line.ints::<6>()?;
-        line.end()?;
-        self.rho.check_len(rho)?;
-        self.radii.check_len(radii)?;
-        self.profile.check_len(profile)?;
-        self.eff.check_len(eff)?;
-        self.cdf.check_len(cdf)?;
-        self.marks.check_len(marks)?;
-        self.rho.set_len(rho);
-        self.radii.set_len(radii);
-        self.profile.set_len(profile);
-        self.eff.set_len(eff);
-        self.cdf.set_len(cdf);
-        self.marks.set_len(marks);
-        Ok(out.text("ok")?)
+        match name {
+            Name::Rho => self.rho.set_len(len),
+            Name::Radii => self.radii.set_len(len),
+            Name::Profile => self.profile.set_len(len),
+            Name::Eff => self.eff.set_len(len),
+            Name::Cdf => self.cdf.set_len(len),
+            Name::Marks => self.marks.set_len(len),
+            Name::Nodes1 => self.nodes1.set_len(len),
+            Name::Nodes2 => self.nodes2.set_len(len),
+            Name::Values => self.values.set_len(len),
+            Name::OwnCdf => self.own_cdf.set_len(len),
+        }
     }
 
-    pub fn own_lens(&mut self, mut line: Line<'_>, out: &mut Output) -> Result<(), Failure>
-        ensures lists { self.new ≡ Spec.own_lens (left line.entry) self.old }
-        ensures malformed { is_malformed result ≡ is_none (Spec.own_lens_of (left line.entry)) }
+    fn set_lens(&mut self, names: &[Name], lens: &[u32])
+        ensures { self.new ≡ Spec.set_lens names.now lens.now self.old }
     {
-        let [nodes1, nodes2, values, cdf] = line.ints::<4>()?;
+        for (name, len) in names.iter().zip(lens) {
+            self.set_len(*name, *len);
+        }
+    }
+
+    // Gives lists the lengths of a line, each at most the capacity. There are ten lists.
+    pub fn lens<const N: usize>(
+        &mut self,
+        names: &[Name; N],
+        mut line: Line<'_>,
+        out: &mut Output,
+    ) -> Result<(), Failure>
+        requires { N ≤ 10 }
+        ensures lists { self.new ≡ Spec.lens names.now (left line.entry) self.old }
+        ensures malformed { is_malformed result ≡ is_none (Spec.lens_of names.now (left line.entry)) }
+    {
+        let lens = line.ints::<N>()?;
         line.end()?;
-        self.nodes1.check_len(nodes1)?;
-        self.nodes2.check_len(nodes2)?;
-        self.values.check_len(values)?;
-        self.own_cdf.check_len(cdf)?;
-        self.nodes1.set_len(nodes1);
-        self.nodes2.set_len(nodes2);
-        self.values.set_len(values);
-        self.own_cdf.set_len(cdf);
+        check_lens(names, &lens)?;
+        self.set_lens(names, &lens);
         Ok(out.text("ok")?)
     }
 

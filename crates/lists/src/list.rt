@@ -39,16 +39,6 @@ impl<T: Entry, const N: usize> List<T, N> {
         &mut self.room[..]
     }
 
-    pub(crate) fn check_len(&self, len: u32) -> Result<(), Malformed>
-        ensures { is_ok result ≡ leb len N }
-    {
-        if len as usize <= N {
-            Ok(())
-        } else {
-            Err(Malformed)
-        }
-    }
-
     pub(crate) fn set_len(&mut self, len: u32)
         ensures { self.new ≡ record self.old { len = len } }
     {

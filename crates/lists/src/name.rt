@@ -1,5 +1,16 @@
 // The lists' names, each of which has a number.
+ghost use Rattle.std.specs.Prelude.{◌≡◌};
+ghost use Rattle.lists.specs.Lists as Spec;
+
 use words::Malformed;
+
+// The capacities: of the lists with an entry for each albedo, of the radius nodes, and of the lists
+// with an entry for each of both.
+pub(crate) const ROWS: usize = 130;
+
+pub(crate) const RADII: usize = 66;
+
+pub(crate) const CELLS: usize = 8580;
 
 #[derive(Clone, Copy)]
 pub enum Name {
@@ -27,6 +38,19 @@ pub const LENT: [Name; 6] = [
 
 // A caller's own.
 pub const OWN: [Name; 4] = [Name::Nodes1, Name::Nodes2, Name::Values, Name::OwnCdf];
+
+impl Name {
+    // For how many entries the list has room.
+    pub(crate) fn capacity(self) -> usize
+        ensures { result ≡ Spec.capacity self }
+    {
+        match self {
+            Name::Rho | Name::Eff | Name::Marks | Name::Nodes1 | Name::Nodes2 => ROWS,
+            Name::Radii => RADII,
+            Name::Profile | Name::Cdf | Name::Values | Name::OwnCdf => CELLS,
+        }
+    }
+}
 
 impl TryFrom<u32> for Name {
     type Error = Malformed;

@@ -14,8 +14,8 @@ use words::{Failure, Line, Malformed, Output};
 pub fn answer(text: &[u8], lists: &mut Lists, out: &mut Output) -> Result<(), Failure> {
     let mut line = Line::new(text);
     match line.word()? {
-        b"lens" => lists.lens(line, out),
-        b"ownlens" => lists.own_lens(line, out),
+        b"lens" => lists.lens(&LENT, line, out),
+        b"ownlens" => lists.lens(&OWN, line, out),
         b"put" => lists.put(line, out),
         b"fill" => lists.fill(line, out),
         b"list" => lists.show(line, out),
