@@ -16,13 +16,13 @@ enum Value {
 fn result(line: &[u8]) -> Result<Value, Malformed> {
     let mut line = Line::new(line);
     let value = match line.word()? {
-        b"a" => Value::Float(elementary::abs(line.float()?)),
-        b"m" => Value::Float(elementary::max0(line.float()?)),
-        b"w" => Value::Double(elementary::widen(line.float()?)),
-        b"n" => Value::Float(elementary::narrow(line.double()?)),
-        b"q" => Value::Float(elementary::sqrt(line.float()?)),
-        b"e" => Value::Float(elementary::exp(line.float()?)),
-        b"l" => Value::Float(elementary::ln(line.float()?)),
+        b"a" => Value::Float(elementary::abs(line.number()?)),
+        b"m" => Value::Float(elementary::max0(line.number()?)),
+        b"w" => Value::Double(elementary::widen(line.number()?)),
+        b"n" => Value::Float(elementary::narrow(line.number()?)),
+        b"q" => Value::Float(elementary::sqrt(line.number()?)),
+        b"e" => Value::Float(elementary::exp(line.number()?)),
+        b"l" => Value::Float(elementary::ln(line.number()?)),
         _ => return Err(Malformed),
     };
     line.end()?;

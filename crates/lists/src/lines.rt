@@ -9,7 +9,7 @@ use crate::hash::Hash;
 use crate::list::{AnyRoom, AnyUsed, List};
 use crate::name::{CELLS, LENT, Name, RADII, ROWS};
 use table::{Lent, Record, TableMut};
-use words::{Failure, Line, Output};
+use words::{Failure, Line, Malformed, Output};
 
 // A table's six lists, and a caller's own: two lists of nodes, values and a CDF.
 #[derive(Drop)]
@@ -180,7 +180,7 @@ impl Lists {
         ensures lists { self.new ≡ Spec.lens names.now (left line.entry) self.old }
         ensures malformed { is_malformed result ≡ is_none (Spec.lens_of names.now (left line.entry)) }
     {
-        let lens = line.ints::<N>()?;
+        let lens = line.numbers::<u32, N>()?;
         line.end()?;
         check_lens(names, &lens)?;
         self.set_lens(names, &lens);
@@ -188,20 +188,20 @@ impl Lists {
     }
 
     pub fn put(&mut self, mut line: Line<'_>, out: &mut Output) -> Result<(), Failure> {
-        let name = Name::try_from(line.int()?)?;
+        let name = Name::try_from(line.number::<u32>()?)?;
         let from = line.size()?;
         self.room_mut(name).put(from, line)?;
         Ok(out.text("ok")?)
     }
 
     pub fn fill(&mut self, mut line: Line<'_>, out: &mut Output) -> Result<(), Failure> {
-        let name = Name::try_from(line.int()?)?;
+        let name = Name::try_from(line.number::<u32>()?)?;
         self.room_mut(name).fill(line)?;
         Ok(out.text("ok")?)
     }
 
     pub fn show(&self, mut line: Line<'_>, out: &mut Output) -> Result<(), Failure> {
-        let number = line.int()?;
+        let number = line.number::<u32>()?;
         let name = Name::try_from(number)?;
         line.end()?;
         out.text("list")?;

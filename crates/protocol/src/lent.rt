@@ -13,12 +13,12 @@ use workstations::{Call, Query, Reply};
 fn record(line: &mut Line<'_>) -> Result<Record, Malformed> {
     let n = line.size()?;
     let m = line.size()?;
-    let [g, eta] = line.floats::<2>()?;
+    let [g, eta] = line.numbers()?;
     Ok(Record::new(n, m, g, eta))
 }
 
 fn spectrum(line: &mut Line<'_>) -> Result<Spectrum, Malformed> {
-    let [r, g, b] = line.floats::<3>()?;
+    let [r, g, b] = line.numbers()?;
     Ok(Spectrum::rgb(r, g, b))
 }
 
@@ -29,7 +29,7 @@ fn coefficients(line: &mut Line<'_>) -> Result<Coefficients, Malformed> {
 }
 
 fn channel(line: &mut Line<'_>) -> Result<RGBEnum, Malformed> {
-    RGBEnum::try_from(line.int()?).map_err(|_| Malformed)
+    RGBEnum::try_from(line.number::<u32>()?).map_err(|_| Malformed)
 }
 
 // ---- answers
@@ -110,8 +110,8 @@ pub(crate) fn sample_sr(
     let r = record(&mut line)?;
     let c = coefficients(&mut line)?;
     let ch = channel(&mut line)?;
-    let u = line.float()?;
-    let allowance = line.int()?;
+    let u = line.number()?;
+    let allowance = line.number()?;
     line.end()?;
     step(
         r,

@@ -53,8 +53,8 @@ pub(crate) fn sample_2d(
     lists: &mut Lists,
     out: &mut Output,
 ) -> Result<(), Failure> {
-    let [alpha, u] = line.floats::<2>()?;
-    let allowance = line.int()?;
+    let [alpha, u] = line.numbers()?;
+    let allowance = line.number()?;
     line.end()?;
     let Own {
         nodes1,

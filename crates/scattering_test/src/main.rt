@@ -22,20 +22,20 @@ enum Value {
 fn of_one<F: FnOnce(f32) -> f32>(line: &mut Line<'_>, f: F) -> Result<Value, Malformed>
     requires { F.IsAlwaysCallable f }
 {
-    Ok(Value::Float(f(line.float()?)))
+    Ok(Value::Float(f(line.number()?)))
 }
 
 fn of_two<F: FnOnce(f32, f32) -> f32>(line: &mut Line<'_>, f: F) -> Result<Value, Malformed>
     requires { F.IsAlwaysCallable f }
 {
-    let [a, b] = line.floats::<2>()?;
+    let [a, b] = line.numbers()?;
     Ok(Value::Float(f(a, b)))
 }
 
 fn of_three<F: FnOnce(f32, f32, f32) -> f32>(line: &mut Line<'_>, f: F) -> Result<Value, Malformed>
     requires { F.IsAlwaysCallable f }
 {
-    let [a, b, c] = line.floats::<3>()?;
+    let [a, b, c] = line.numbers()?;
     Ok(Value::Float(f(a, b, c)))
 }
 
@@ -45,12 +45,12 @@ fn of_five<F: FnOnce(f32, f32, f32, f32, f32) -> f32>(
 ) -> Result<Value, Malformed>
     requires { F.IsAlwaysCallable f }
 {
-    let [a, b, c, d, e] = line.floats::<5>()?;
+    let [a, b, c, d, e] = line.numbers()?;
     Ok(Value::Float(f(a, b, c, d, e)))
 }
 
 fn sw(line: &mut Line<'_>) -> Result<Value, Malformed> {
-    let [eta, cosine] = line.floats::<2>()?;
+    let [eta, cosine] = line.numbers()?;
     Ok(match scattering::sw(eta, cosine) {
         Ok(s) => Value::Whole(s),
         Err(refusal) => Value::Refused(refusal),
@@ -60,7 +60,7 @@ fn sw(line: &mut Line<'_>) -> Result<Value, Malformed> {
 // ---- functions of spectra
 
 fn spectrum(line: &mut Line<'_>) -> Result<Spectrum, Malformed> {
-    let [r, g, b] = line.floats::<3>()?;
+    let [r, g, b] = line.numbers()?;
     Ok(Spectrum::rgb(r, g, b))
 }
 
@@ -76,7 +76,7 @@ fn of_spectra<F: FnOnce(Spectrum, Spectrum) -> Spectrum>(
 
 fn clamp(line: &mut Line<'_>) -> Result<Value, Malformed> {
     let s = spectrum(line)?;
-    let [low, high] = line.floats::<2>()?;
+    let [low, high] = line.numbers()?;
     Ok(Value::Whole(s.clamp(low, high)))
 }
 

@@ -37,22 +37,22 @@ abbrev pub digit : ℕ → ℕ → Option ℕ
 digit base c = if ltb (digit_value c) base then Some (digit_value c) else None
 
 -- the number that digits stand for, after those that stand for n
-abbrev pub number_after : ℕ → ℕ → List ℕ → Option ℕ
-number_after base n [] = Some n
-number_after base n (c ∷ cs) = option_and_then (λ d. number_after base (base * n + d) cs) (digit base c)
+abbrev pub digits_after : ℕ → ℕ → List ℕ → Option ℕ
+digits_after base n [] = Some n
+digits_after base n (c ∷ cs) = option_and_then (λ d. digits_after base (base * n + d) cs) (digit base c)
 
-abbrev pub number : ℕ → List ℕ → Option ℕ
-number base cs = number_after base 0 cs
+abbrev pub digits : ℕ → List ℕ → Option ℕ
+digits base cs = digits_after base 0 cs
 
 -- an INT
 abbrev pub int : List ℕ → Option ℕ
 int cs =
     if ltb 0 (length cs) && leb (length cs) 10
-    then option_and_then (λ n. if ltb n (2 ^ 32) then Some n else None) (number 10 cs) else None
+    then option_and_then (λ n. if ltb n (2 ^ 32) then Some n else None) (digits 10 cs) else None
 
 -- a BITS of so many digits
 abbrev pub bits : ℕ → List ℕ → Option ℕ
-bits count cs = if eqb (length cs) count then number 16 cs else None
+bits count cs = if eqb (length cs) count then digits 16 cs else None
 
 -- ---- what a word stands for
 

@@ -6,10 +6,12 @@ mod entry;
 mod failure;
 mod input;
 mod line;
+mod number;
 mod output;
 
 pub use entry::Entry;
 pub use failure::{Failure, Malformed};
 pub use input::answer_lines;
 pub use line::Line;
+pub use number::Number;
 pub use output::Output;
