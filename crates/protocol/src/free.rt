@@ -9,7 +9,7 @@ pub(crate) fn refused(refusal: Refusal, out: &mut Output) -> io::Result<()> {
 }
 
 pub(crate) fn sw(mut line: Line<'_>, out: &mut Output) -> Result<(), Failure> {
-    let [eta, cosine] = line.numbers()?;
+    let [eta, cosine] = line.numbers::<f32, 2>()?;
     line.end()?;
     match scattering::sw(eta, cosine) {
         Ok(s) => out.values("value", &<[f32; 3]>::from(s))?,

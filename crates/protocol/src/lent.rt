@@ -13,18 +13,13 @@ use workstations::{Call, Query, Reply};
 fn record(line: &mut Line<'_>) -> Result<Record, Malformed> {
     let n = line.size()?;
     let m = line.size()?;
-    let [g, eta] = line.numbers()?;
+    let [g, eta] = line.numbers::<f32, 2>()?;
     Ok(Record::new(n, m, g, eta))
 }
 
-fn spectrum(line: &mut Line<'_>) -> Result<Spectrum, Malformed> {
-    let [r, g, b] = line.numbers()?;
-    Ok(Spectrum::rgb(r, g, b))
-}
-
 fn coefficients(line: &mut Line<'_>) -> Result<Coefficients, Malformed> {
-    let sigma_a = spectrum(line)?;
-    let sigma_s = spectrum(line)?;
+    let sigma_a = Spectrum::from(line.numbers::<f32, 3>()?);
+    let sigma_s = Spectrum::from(line.numbers::<f32, 3>()?);
     Ok(Coefficients { sigma_a, sigma_s })
 }
 

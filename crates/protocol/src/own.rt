@@ -53,7 +53,7 @@ pub(crate) fn sample_2d(
     lists: &mut Lists,
     out: &mut Output,
 ) -> Result<(), Failure> {
-    let [alpha, u] = line.numbers()?;
+    let [alpha, u] = line.numbers::<f32, 2>()?;
     let allowance = line.number()?;
     line.end()?;
     let Own {

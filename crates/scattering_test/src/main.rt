@@ -17,40 +17,8 @@ enum Value {
     Refused(Refusal),
 }
 
-// ---- functions of floats
-
-fn of_one<F: FnOnce(f32) -> f32>(line: &mut Line<'_>, f: F) -> Result<Value, Malformed>
-    requires { F.IsAlwaysCallable f }
-{
-    Ok(Value::Float(f(line.number()?)))
-}
-
-fn of_two<F: FnOnce(f32, f32) -> f32>(line: &mut Line<'_>, f: F) -> Result<Value, Malformed>
-    requires { F.IsAlwaysCallable f }
-{
-    let [a, b] = line.numbers()?;
-    Ok(Value::Float(f(a, b)))
-}
-
-fn of_three<F: FnOnce(f32, f32, f32) -> f32>(line: &mut Line<'_>, f: F) -> Result<Value, Malformed>
-    requires { F.IsAlwaysCallable f }
-{
-    let [a, b, c] = line.numbers()?;
-    Ok(Value::Float(f(a, b, c)))
-}
-
-fn of_five<F: FnOnce(f32, f32, f32, f32, f32) -> f32>(
-    line: &mut Line<'_>,
-    f: F,
-) -> Result<Value, Malformed>
-    requires { F.IsAlwaysCallable f }
-{
-    let [a, b, c, d, e] = line.numbers()?;
-    Ok(Value::Float(f(a, b, c, d, e)))
-}
-
 fn sw(line: &mut Line<'_>) -> Result<Value, Malformed> {
-    let [eta, cosine] = line.numbers()?;
+    let [eta, cosine] = line.numbers::<f32, 2>()?;
     Ok(match scattering::sw(eta, cosine) {
         Ok(s) => Value::Whole(s),
         Err(refusal) => Value::Refused(refusal),
@@ -60,8 +28,7 @@ fn sw(line: &mut Line<'_>) -> Result<Value, Malformed> {
 // ---- functions of spectra
 
 fn spectrum(line: &mut Line<'_>) -> Result<Spectrum, Malformed> {
-    let [r, g, b] = line.numbers()?;
-    Ok(Spectrum::rgb(r, g, b))
+    Ok(Spectrum::from(line.numbers::<f32, 3>()?))
 }
 
 fn of_spectra<F: FnOnce(Spectrum, Spectrum) -> Spectrum>(
@@ -76,7 +43,7 @@ fn of_spectra<F: FnOnce(Spectrum, Spectrum) -> Spectrum>(
 
 fn clamp(line: &mut Line<'_>) -> Result<Value, Malformed> {
     let s = spectrum(line)?;
-    let [low, high] = line.numbers()?;
+    let [low, high] = line.numbers::<f32, 2>()?;
     Ok(Value::Whole(s.clamp(low, high)))
 }
 
@@ -95,13 +62,28 @@ fn channel(line: &mut Line<'_>) -> Result<Value, Malformed> {
 
 fn result(line: &mut Line<'_>) -> Result<Value, Malformed> {
     match line.word()? {
-        b"clamp_t" => of_three(line, scattering::clamp_t),
-        b"fr_dielectric" => of_three(line, scattering::fr_dielectric),
-        b"phase_hg" => of_two(line, scattering::phase_hg),
-        b"fresnel_moment1" => of_one(line, scattering::fresnel_moment1),
-        b"fresnel_moment2" => of_one(line, scattering::fresnel_moment2),
-        b"beam_diffusion_ss" => of_five(line, scattering::beam_diffusion_ss),
-        b"beam_diffusion_ms" => of_five(line, scattering::beam_diffusion_ms),
+        b"clamp_t" => {
+            let [val, low, high] = line.numbers::<f32, 3>()?;
+            Ok(Value::Float(scattering::clamp_t(val, low, high)))
+        }
+        b"fr_dielectric" => {
+            let [cosine, eta_i, eta_t] = line.numbers::<f32, 3>()?;
+            Ok(Value::Float(scattering::fr_dielectric(cosine, eta_i, eta_t)))
+        }
+        b"phase_hg" => {
+            let [cosine, g] = line.numbers::<f32, 2>()?;
+            Ok(Value::Float(scattering::phase_hg(cosine, g)))
+        }
+        b"fresnel_moment1" => Ok(Value::Float(scattering::fresnel_moment1(line.number()?))),
+        b"fresnel_moment2" => Ok(Value::Float(scattering::fresnel_moment2(line.number()?))),
+        b"beam_diffusion_ss" => {
+            let [sigma_s, sigma_a, g, eta, r] = line.numbers::<f32, 5>()?;
+            Ok(Value::Float(scattering::beam_diffusion_ss(sigma_s, sigma_a, g, eta, r)))
+        }
+        b"beam_diffusion_ms" => {
+            let [sigma_s, sigma_a, g, eta, r] = line.numbers::<f32, 5>()?;
+            Ok(Value::Float(scattering::beam_diffusion_ms(sigma_s, sigma_a, g, eta, r)))
+        }
         b"sw" => sw(line),
         b"add" => of_spectra(line, |s, t| s + t),
         b"mul" => of_spectra(line, |s, t| s * t),
