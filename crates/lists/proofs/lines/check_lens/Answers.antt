@@ -1,3 +1,4 @@
+-- `check_lens` meets its contract: at the loop's end the names or the lengths have come to theirs, and no more is asked.
 use Rattle.std.proofs.Common.{inl, inr, ◌∙◌}
 use Rattle.lists.proofs.Lens.{no_names_within, no_numbers_within}
 use Rattle.lists.proofs.lines.check_lens.Goals as goal

@@ -1,3 +1,4 @@
+-- n has fewer digits than the word, so one more neither overflows the product nor the sum.
 use Rattle.std.proofs.Common.{arith}
 use Rattle.words.proofs.Digits.{one_more}
 use Rattle.words.proofs.number.digits.Goals as goal

@@ -1,3 +1,4 @@
+-- `set_lens` meets its contract: at the loop's end the names or the lengths have come to theirs, and nothing more is set.
 use Rattle.std.proofs.Common.{inl, inr, ◌∙◌}
 use Rattle.lists.proofs.Lens.{no_names_set, no_numbers_set}
 use Rattle.lists.proofs.lines.Lists.set_lens.Goals as goal

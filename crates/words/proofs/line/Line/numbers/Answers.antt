@@ -1,3 +1,4 @@
+-- One more number is read in a turn: it stands behind those so far, and one word fewer is left.
 use Rattle.std.proofs.Common.{◌∙◌}
 use Rattle.std.proofs.lemmas.List.{length-set}
 use Rattle.words.proofs.InTurn.{one_more, one_word}
