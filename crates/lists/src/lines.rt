@@ -128,7 +128,7 @@ impl Lists {
         }
     }
 
-    // The same whole, to be written.
+    // The same whole, to be written. A match of its own, since no function is generic over `&` and `&mut`.
     fn room_mut(&mut self, name: Name) -> AnyRoom<'_> {
         match name {
             Name::Rho => AnyRoom::Floats(self.rho.room_mut()),

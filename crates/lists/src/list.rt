@@ -69,7 +69,7 @@ impl<T: Entry> Used<'_, T> {
     }
 }
 
-// The same of any entries.
+// The same of any entries, since which list it is is known only when the line is read.
 #[derive(Drop)]
 pub(crate) enum AnyUsed<'a> {
     Floats(Used<'a, f32>),
