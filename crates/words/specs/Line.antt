@@ -1,5 +1,5 @@
 -- The words of a line, and what they stand for. A text is a list of bytes, and what is left of a line is a text or, at its end, `None`.
-use Rattle.std.specs.Prelude.{ℕ, zero, suc, ◌+◌, ◌-◌, ◌*◌, ◌^◌, Bool, ◌&&◌, eqb, ltb, leb, List, [], ◌∷◌, length, drop, position, if◌then◌else◌, Option, Some, None, option_map, option_and_then, option_copied, Float, from_bits}
+use Rattle.std.specs.Prelude.{ℕ, zero, suc, ◌+◌, ◌-◌, ◌*◌, ◌^◌, Bool, ◌&&◌, eqb, ltb, leb, List, [], ◌∷◌, length, drop, position, if◌then◌else◌, Option, Some, None, is_none, option_map, option_and_then, option_copied, Float, from_bits}
 use Rattle.std.specs.List.{before_first}
 use Rattle.std.specs.Float.{binary32, binary64}
 use Rattle.words.specs.declared.line.Line.{Line}
@@ -74,3 +74,9 @@ next f text = option_and_then f (word text)
 abbrev pub nexts : {A : Type 0} → (List ℕ → Option A) → ℕ → Option (List ℕ) → Option (List A)
 nexts f zero text = Some []
 nexts f (suc n) text = option_and_then (λ x. option_map (λ xs. x ∷ xs) (nexts f n (after text))) (next f text)
+
+-- the words to the line's end, as f reads them, and nothing where one is malformed or they are more than so many
+abbrev pub to_end : {A : Type 0} → (List ℕ → Option A) → ℕ → Option (List ℕ) → Option (List A)
+to_end f zero text = None
+to_end f (suc most) text =
+    option_and_then (λ x. if is_none (after text) then Some (x ∷ []) else option_map (λ xs. x ∷ xs) (to_end f most (after text))) (next f text)

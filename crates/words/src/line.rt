@@ -1,6 +1,6 @@
 // Lines. The words of a line are separated by one space, with none before the first or after the last.
 // The first is the line's name, and the others are numbers.
-ghost use Rattle.std.specs.Prelude.{◌≡◌, IfOk, is_ok, is_none, position, option_copied, if◌then◌else◌};
+ghost use Rattle.std.specs.Prelude.{◌≡◌, IfOk, is_ok, is_none, position, option_copied, option_map, if◌then◌else◌};
 ghost use Rattle.std.specs.Result.{result_ok};
 ghost use Rattle.words.specs.Line as Spec;
 
@@ -85,13 +85,17 @@ impl<'a> Line<'a> {
     }
 
     // One entry or more, to the line's end.
-    pub fn entries<T: Entry>(self) -> Result<ArrayVec<T, MOST>, Malformed> {
-        let text = self.rest.ok_or(Malformed)?;
+    pub fn entries<T: Entry>(mut self) -> Result<ArrayVec<T, MOST>, Malformed>
+        ensures { option_map (λ all. all.items) (result_ok result) ≡ Spec.to_end (Spec.entry T.of_bits) MOST (Spec.left self.entry) }
+    {
         let mut all = ArrayVec::new();
-        for word in text.split(|c| *c == b' ') {
-            all.try_push(entry(word)?).map_err(|_| Malformed)?;
+        for _ in 0..MOST {
+            all.push(self.entry()?);
+            if self.rest.is_none() {
+                return Ok(all);
+            }
         }
-        Ok(all)
+        Err(Malformed)
     }
 
     // One entry, with which the line ends.
