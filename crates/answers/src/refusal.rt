@@ -9,32 +9,32 @@ use std::fmt;
 // The rows of document 01's table of refusals, in its order.
 #[derive(Clone, Copy, Debug, PartialEq, Eq)]
 pub enum Refusal {
-    // 1: the number of rows, or of nodes in the first list, is out of range.
-    Rows,
-    // 2: the number of radii, or of nodes in the second list, is out of range.
-    Radii,
-    // 3: g is out of range.
-    PhaseAsymmetry,
-    // 4: eta is out of range.
-    RefractiveIndex,
-    // 5: a list has another length.
-    Length,
-    // 6: a node list is not finite and strictly increasing.
-    Nodes,
-    // 7: there is no row of this number.
-    RowNumber,
-    // 8: a coefficient, or the sum of a channel's two, is no finite number from 0 on.
-    Coefficients,
-    // 9: u or a cosine is out of range.
-    Argument,
-    // 10: the allowance is out of range.
-    Allowance,
-    // 11: a needed row is not built.
-    RowMissing,
-    // 12: a channel of `sr` is a NaN.
-    NotANumber,
-    // 13: the allowance of rounds is used up.
-    Exhausted,
+    // The number of rows, or of nodes in the first list, is out of range.
+    Rows = 1,
+    // The number of radii, or of nodes in the second list, is out of range.
+    Radii = 2,
+    // g is out of range.
+    PhaseAsymmetry = 3,
+    // eta is out of range.
+    RefractiveIndex = 4,
+    // A list has another length.
+    Length = 5,
+    // A node list is not finite and strictly increasing.
+    Nodes = 6,
+    // There is no row of this number.
+    RowNumber = 7,
+    // A coefficient, or the sum of a channel's two, is no finite number from 0 on.
+    Coefficients = 8,
+    // u or a cosine is out of range.
+    Argument = 9,
+    // The allowance is out of range.
+    Allowance = 10,
+    // A needed row is not built.
+    RowMissing = 11,
+    // A channel of `sr` is a NaN.
+    NotANumber = 12,
+    // The allowance of rounds is used up.
+    Exhausted = 13,
 }
 
 impl From<Refusal> for u32 {
@@ -43,21 +43,7 @@ impl From<Refusal> for u32 {
     // Its number in the table.
     #[tactic(auto, unfolding(crate::specs::Refusal::number))]
     fn from(r: Refusal) -> u32 {
-        match r {
-            Refusal::Rows => 1,
-            Refusal::Radii => 2,
-            Refusal::PhaseAsymmetry => 3,
-            Refusal::RefractiveIndex => 4,
-            Refusal::Length => 5,
-            Refusal::Nodes => 6,
-            Refusal::RowNumber => 7,
-            Refusal::Coefficients => 8,
-            Refusal::Argument => 9,
-            Refusal::Allowance => 10,
-            Refusal::RowMissing => 11,
-            Refusal::NotANumber => 12,
-            Refusal::Exhausted => 13,
-        }
+        r as u32
     }
 }
 

@@ -108,9 +108,8 @@ fn exp_of_each(xs: &mut [f32], room: &[f64])
     requires { room.now ≡ map Exponential.series xs.old }
     ensures { xs.new ≡ map Exponential.exp xs.old }
 {
-    let n = xs.len();
-    for i in 0..n {
-        xs[i] = exp_of(xs[i], room[i]);
+    for (i, x) in xs.iter_mut().enumerate() {
+        *x = exp_of(*x, room[i]);
     }
 }
 

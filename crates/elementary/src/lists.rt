@@ -9,9 +9,8 @@ pub fn fill_by<F: Fn(usize) -> f32>(out: &mut [f32], f: F)
     requires { (k : ℕ) → k < length out.old → F.pre f k }
     ensures { (v : ℕ → Float) → ((k : ℕ) (y : Float) → k < length out.old → F.post f k y → y ≡ v k) → out.new ≡ list_of (length out.old) v }
 {
-    let n = out.len();
-    for i in 0..n {
-        out[i] = f(i);
+    for (k, y) in out.iter_mut().enumerate() {
+        *y = f(k);
     }
 }
 
@@ -22,9 +21,8 @@ pub fn map_into<F: Fn(f32) -> f32>(xs: &[f32], out: &mut [f32], f: F)
     requires callable { F.IsAlwaysCallable f }
     ensures { (v : Float → Float) → ((x y : Float) → F.post f x y → y ≡ v x) → out.new ≡ map v xs.now }
 {
-    let n = out.len();
-    for i in 0..n {
-        out[i] = f(xs[i]);
+    for (i, y) in out.iter_mut().enumerate() {
+        *y = f(xs[i]);
     }
 }
 
@@ -35,9 +33,8 @@ pub fn zip_into<F: Fn(f32, f32) -> f32>(xs: &[f32], ys: &[f32], out: &mut [f32],
     requires callable { F.IsAlwaysCallable f }
     ensures { (v : ℕ → Float) → ((k : ℕ) (y : Float) → k < length out.old → F.post f (get_or xs.now k nan) (get_or ys.now k nan) y → y ≡ v k) → out.new ≡ list_of (length out.old) v }
 {
-    let n = out.len();
-    for i in 0..n {
-        out[i] = f(xs[i], ys[i]);
+    for (i, z) in out.iter_mut().enumerate() {
+        *z = f(xs[i], ys[i]);
     }
 }
 
@@ -47,9 +44,8 @@ pub fn map_in_place<F: Fn(f32) -> f32>(xs: &mut [f32], f: F)
     requires { F.IsAlwaysCallable f }
     ensures { (v : Float → Float) → ((x y : Float) → F.post f x y → y ≡ v x) → xs.new ≡ map v xs.old }
 {
-    let n = xs.len();
-    for i in 0..n {
-        xs[i] = f(xs[i]);
+    for x in xs.iter_mut() {
+        *x = f(*x);
     }
 }
 

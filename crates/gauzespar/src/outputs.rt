@@ -23,10 +23,7 @@ pub fn told(answer: Result<(), Refusal>) -> u32
 pub fn misfit(before: Result<(), Refusal>) -> Refusal
     ensures { number result ≡ first_of (number_of before ∷ 5 ∷ []) }
 {
-    match before {
-        Ok(()) => Refusal::Length,
-        Err(refusal) => refusal,
-    }
+    before.err().unwrap_or(Refusal::Length)
 }
 
 // 1 and 2, by the lengths of two node lists.

@@ -1,4 +1,4 @@
--- Check 6 by what the code tests. A value is finite where it lies between the infinities (`finite_is`). Where each node is below the next, an inner node is finite, having a value below it and one above it,
+-- Check 6 by what the code tests. The library's test of a finite value is the definition's (`finite_is`). Where each node is below the next, an inner node is finite, having a value below it and one above it,
 -- and the two ends are where their difference is finite: so the first of the three tests follows from the others (`ok_is`). Assumes nothing.
 use mathlib.Core.Path.{◌≡◌, refl, sym, ◌∙◌}
 use mathlib.Core.Bool.{Bool, true, false, ◌&&◌, false≢true}
@@ -10,14 +10,14 @@ use native.Mathlib.Numerals.{add-one}
 use native.Mathlib.Omega.{arith}
 use lib.ListN.{get_or, length}
 use lib.Ieee.{Float, nan, inf, fin, lt, add, sub, neg}
+use Rattle.std.specs.Float.{float_is_finite}
 use Rattle.elementary.specs.Notation.{◌⊕◌, ◌⊖◌}
 use Rattle.interpolation.specs.Nodes.{finite, all_below, all_finite, increasing, nodes_ok}
 
-pub finite_is : (x : Float) → (lt (neg (inf false)) x && lt x (inf false)) ≡ finite x
-unfolding finite lt neg
+pub finite_is : (x : Float) → float_is_finite x ≡ finite x
+unfolding finite float_is_finite
 finite_is nan = refl
-finite_is (inf true) = refl
-finite_is (inf false) = refl
+finite_is (inf s) = refl
 finite_is (fin s m e) = refl
 
 -- ---- each number below n passes, and back

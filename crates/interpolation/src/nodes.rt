@@ -31,23 +31,6 @@ impl<'a> Nodes<'a> {
             Err(Refusal::Nodes)
         }
     }
-
-    pub fn new(list: &'a [f32]) -> Nodes<'a>
-        requires some { 2 ≤ length list.now }
-        requires accepted { nodes_ok list.now ≡ true }
-        ensures { result.list ≡ list.entry }
-    {
-        Nodes { list }
-    }
-}
-
-// Whether x is neither a NaN nor an infinity.
-#[tactic(auto, using(crate::proofs::Finite::checking))]
-fn is_finite(x: f32) -> bool
-    ensures { result ≡ finite x }
-{
-    let top = elementary::infinity();
-    (-top < x) & (x < top)
 }
 
 // How many of the eight nodes from i on are below the next.
@@ -77,5 +60,6 @@ pub fn nodes_ok(nodes: &[f32]) -> bool
     requires { 2 ≤ length nodes.now }
     ensures { result ≡ nodes_ok nodes.now }
 {
-    is_increasing(nodes) && is_finite(nodes[nodes.len() - 1] - nodes[0])
+    let span = nodes[nodes.len() - 1] - nodes[0];
+    is_increasing(nodes) && span.is_finite()
 }

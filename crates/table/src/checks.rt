@@ -1,7 +1,7 @@
 // The checks of document 01's table that concern starting and building, 1 to 7.
 #![tactic(auto, using(crate::proofs::Cited::chains), unfolding(answers::specs::Refusal::number, answers::specs::Refusal::number_of, crate::specs::Checks::check3, crate::specs::Checks::check5, crate::specs::Checks::check7, crate::specs::Checks::record_number, crate::specs::Checks::start_number, crate::specs::Checks::table_number, crate::specs::Checks::build_number))]
 
-ghost use Rattle.std.specs.Prelude.{◌≡◌, ◌≤◌, IfOk, length};
+ghost use Rattle.std.specs.Prelude.{◌≡◌, ◌≤◌};
 ghost use Rattle.answers.specs.Refusal.{number_of};
 ghost use Rattle.interpolation.specs.Checks.{max_rows, max_radii};
 ghost use Rattle.table.specs.Parameters.{lengths_of, lists_of};
@@ -54,22 +54,14 @@ pub fn check_start(r: Record, l: Lengths) -> Result<(), Refusal>
     check_lengths(r, l)
 }
 
-// The nodes of a table that has passed the checks 1 to 6.
-#[derive(Clone, Copy)]
-pub struct TableNodes<'a> {
-    pub rho: Nodes<'a>,
-    pub radii: Nodes<'a>,
-}
-
-// 1 to 6. The nodes are those of the table.
-pub fn check_table(t: Table<'_>) -> Result<TableNodes<'_>, Refusal>
-    ensures number { number_of result ≡ Checks.table_number t.entry.record t.entry.rho_samples.now t.entry.radius_samples.now (lengths_of (lists_of t.entry)) }
-    ensures nodes { IfOk result (λ nodes. (nodes.rho.list ≡ t.entry.rho_samples) × (nodes.radii.list ≡ t.entry.radius_samples)) }
+// 1 to 6
+pub fn check_table(t: Table<'_>) -> Result<(), Refusal>
+    ensures { number_of result ≡ Checks.table_number t.entry.record t.entry.rho_samples.now t.entry.radius_samples.now (lengths_of (lists_of t.entry)) }
 {
     check_start(t.record, t.lengths())?;
-    let rho = Nodes::check(t.rho_samples)?;
-    let radii = Nodes::check(t.radius_samples)?;
-    Ok(TableNodes { rho, radii })
+    Nodes::check(t.rho_samples)?;
+    Nodes::check(t.radius_samples)?;
+    Ok(())
 }
 
 // 1 to 7

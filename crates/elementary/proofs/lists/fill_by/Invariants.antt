@@ -3,5 +3,5 @@ use Rattle.std.proofs.Common.{◌≡◌, ℕ, ◌<◌, ◌≤◌, length, get_or
 use lib.Ieee.{nan}
 use Rattle.elementary.proofs.lists.fill_by.Given as goal
 
-abbrev pub invariant-loop-i : goal.invariant-loop-i
-invariant-loop-i g l = (l.i ≤ l.n) × (length l.out ≡ l.n) × ((k : ℕ) → k < l.i → goal.F-post g l.f k (get_or l.out k nan))
+abbrev pub invariant-loop-k : goal.invariant-loop-k
+invariant-loop-k g l = (l.k ≤ l.k-end) × (length l.out ≡ l.k-end) × ((j : ℕ) → j < l.k → goal.F-post g l.f j (get_or l.out j nan))
