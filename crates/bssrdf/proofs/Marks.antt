@@ -6,9 +6,9 @@ use Prim.Native.Nat.{ℕ}
 use lib.IntN.{ℤ}
 use lib.Ieee.{Float, eq}
 use Rattle.elementary.specs.Notation.{lit}
+use Rattle.interpolation.specs.Weights.{weight_at, over_four}
 use Rattle.interpolation.specs.Blend.{row_of}
 use Rattle.interpolation.specs.declared.weights.Four.{Four}
-use Rattle.interpolation.proofs.Rows.{row_is}
 use Rattle.bssrdf.specs.Needed.{row_if, weighted_rows, is_marked, all_marked}
 
 -- the row k is marked, or its weight is zero
@@ -39,9 +39,12 @@ four_ands true true false d = refl
 four_ands true true true false = refl
 four_ands true true true true = refl
 
--- the rows of four weights
-pub four_marked : (marks : List ℕ) (o : ℤ) (f : Four)
-    → all_marked marks (weighted_rows o f) ≡ (Ready marks f.w0 (row_of o 0) && Ready marks f.w1 (row_of o 1) && Ready marks f.w2 (row_of o 2) && Ready marks f.w3 (row_of o 3))
+-- the step of the row of weight k: the rows before it are ready, and it is
+abbrev pub AlsoReady : List ℕ → ℤ → Four → ℕ → Bool → Bool
+AlsoReady marks o f k ready = ready && Ready marks (weight_at f k) (row_of o k)
+
+-- the rows of four weights, one after the other
+pub four_marked : (marks : List ℕ) (o : ℤ) (f : Four) → all_marked marks (weighted_rows o f) ≡ over_four (AlsoReady marks o f) true
 unfolding weighted_rows all_marked
 four_marked marks o f =
     rw (marked_if marks f.w0 _ _, marked_if marks f.w1 _ _, marked_if marks f.w2 _ _, marked_if marks f.w3 _ _)
@@ -51,5 +54,3 @@ four_marked marks o f =
 pub three_marked : (marks xs ys zs : List ℕ) → all_marked marks (xs ++ (ys ++ zs)) ≡ (all_marked marks xs && all_marked marks ys && all_marked marks zs)
 three_marked marks xs ys zs =
     marked_append marks xs (ys ++ zs) ∙ ap (λ (b : Bool). all_marked marks xs && b) (marked_append marks ys zs) ∙ and_assoc (all_marked marks xs) (all_marked marks ys) (all_marked marks zs)
-
-pub ruleset marking = (row_is, four_marked, three_marked)

@@ -23,18 +23,11 @@ fn is_ready(marks: &[u8], row: usize, w: f32) -> bool
 }
 
 // Whether each row of nonzero weight is marked built, for the weights of a place.
-#[tactic(auto, using(crate::proofs::Marks::marking))]
 pub fn are_marked(marks: &[u8], p: Place) -> bool
     requires { Reach p.four p.interval (length marks.now) }
     ensures { result ≡ Needed.all_marked marks.now (Needed.weighted_rows (offset_of p.interval) p.four) }
 {
-    let i = p.interval;
-    let f = p.four;
-    let ready0 = is_ready(marks, i, f.w0);
-    let ready1 = is_ready(marks, i + 1, f.w1);
-    let ready2 = is_ready(marks, i + 2, f.w2);
-    let ready3 = is_ready(marks, i + 3, f.w3);
-    ready0 & ready1 & ready2 & ready3
+    p.over_four(true, |row, w, ready| ready & is_ready(marks, row, w))
 }
 
 // The same of one channel of three, which needs no row where it is outside.
@@ -47,7 +40,7 @@ fn is_channel_ready(marks: &[u8], inside: bool, p: Place) -> bool
 }
 
 // And of all three.
-#[tactic(auto, using(crate::proofs::Marks::marking))]
+#[tactic(auto, using(crate::proofs::Marks::three_marked))]
 pub fn are_ready(marks: &[u8], inside: [bool; 3], rho: Axis) -> bool
     requires { (k : ℕ) → k < 3 → get_or inside k false ≡ true → Reach (four_of (get_or rho.weights k [])) (get_or rho.at k 0) (length marks.now) }
     ensures { result ≡ Needed.all_marked marks.now (Needed.rows_of (weights_by (get_or inside 0 false) (get_or rho.at 0 0) (four_of (get_or rho.weights 0 [])))

@@ -19,7 +19,7 @@ use Rattle.interpolation.proofs.Bisection.{interval_bound, node_bound}
 use Rattle.interpolation.proofs.Reach.{reach}
 
 -- four steps, one after the other
-pub in_turn : (step : ℕ → Float → Float) (z : Float) {v0 v1 v2 v3 : Float} → v0 ≡ step 0 z → v1 ≡ step 1 v0 → v2 ≡ step 2 v1 → v3 ≡ step 3 v2 → v3 ≡ over_four step z
+pub in_turn : {V : Type 0} (step : ℕ → V → V) (z : V) {v0 v1 v2 v3 : V} → v0 ≡ step 0 z → v1 ≡ step 1 v0 → v2 ≡ step 2 v1 → v3 ≡ step 3 v2 → v3 ≡ over_four step z
 in_turn step z p q r s = s ∙ ap (step 3) (r ∙ ap (step 2) (q ∙ ap (step 1) p))
 
 pub row_is : (i k : ℕ) → row_of (offset_of i) k ≡ i + k - 1

@@ -60,7 +60,7 @@ weight_at f (suc (suc zero)) = f.w2
 weight_at f (suc (suc (suc p))) = f.w3
 
 -- the places 0 to 3, one after the other
-abbrev pub over_four : (ℕ → Float → Float) → Float → Float
+abbrev pub over_four : {V : Type 0} → (ℕ → V → V) → V → V
 over_four step v = step 3 (step 2 (step 1 (step 0 v)))
 
 -- the four as a list, and a list as four

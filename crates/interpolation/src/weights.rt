@@ -1,5 +1,5 @@
 // `catmull_rom_weights` of interpolation.rs.
-ghost use Rattle.std.specs.Prelude.{true, ℕ, Float, ◌≡◌, ◌+◌, ◌≤◌, ◌<◌, length};
+ghost use Rattle.std.specs.Prelude.{true, ℕ, ◌≡◌, ◌+◌, ◌≤◌, ◌<◌, length};
 ghost use Rattle.interpolation.specs.Interval.{node_interval};
 ghost use Rattle.interpolation.specs.Weights as Spec;
 ghost use Rattle.interpolation.specs.Weights.{offset_of, weight_at};
@@ -50,9 +50,9 @@ pub struct Place {
 impl Place {
     // One step after the other for the four nodes: each is given the number of its node, counted from
     // 1, that node's weight, and what the step before it gave.
-    pub fn over_four<F: Fn(usize, f32, f32) -> f32>(self, start: f32, step: F) -> f32
-        requires { (k node : ℕ) (v : Float) → k < 4 → node ≡ self.interval + k → F.pre step node (weight_at self.four k) v }
-        ensures { (s : ℕ → Float → Float) → ((k node : ℕ) (v w : Float) → k < 4 → node ≡ self.interval + k → F.post step node (weight_at self.four k) v w → w ≡ s k v) → result ≡ Spec.over_four s start }
+    pub fn over_four<V, F: Fn(usize, f32, V) -> V>(self, start: V, step: F) -> V
+        requires { (k node : ℕ) (v : V) → k < 4 → node ≡ self.interval + k → F.pre step node (weight_at self.four k) v }
+        ensures { (s : ℕ → V → V) → ((k node : ℕ) (v w : V) → k < 4 → node ≡ self.interval + k → F.post step node (weight_at self.four k) v w → w ≡ s k v) → result ≡ Spec.over_four s start }
     {
         let Place { interval: i, four } = self;
         let v0 = step(i, four.w0, start);
