@@ -36,8 +36,8 @@ pub fn step(t: &mut TableMut<'_>, call: Call) -> Result<Reply, Refusal>
 }
 
 // Makes as many calls as both lists have places for, each on the lists as the one before left them.
-// As many answers are theirs, and the rest stay. By index, since a proof knows no element of what
-// `iter_mut` lends.
+// As many answers are theirs, and the rest stay. By index, since a proof knows no element that `zip`
+// over `iter_mut` lends.
 pub fn make(t: &mut TableMut<'_>, calls: &[Call], answers: &mut [Result<Reply, Refusal>])
     ensures made { let n = min (length calls.now) (length answers.old) in
         map Calls.told (take n answers.new) ≡ (Calls.run t.old.record (lists_of_mut t.old) (map Calls.call_of (take n calls.now))).answers }
