@@ -1,5 +1,6 @@
 // Floats and their bit patterns, NaNs included: every NaN pattern is read as the one NaN, and a NaN
-// is written as 7FC00000 or 7FF8000000000000.
+// is written as 7FC00000 or 7FF8000000000000. Four functions, each one call of the library, by the
+// names of pbrt.rs: a generic one would need a trait with four methods.
 ghost use Rattle.std.specs.Prelude.{◌≡◌, from_bits, to_bits};
 ghost use Rattle.std.specs.Float.{binary32, binary64};
 

@@ -1,5 +1,5 @@
 // The Fresnel term, and splines over a caller's own lists: first what each call writes into its output
-// lists, and then the functions that C calls.
+// lists, and then the functions that C calls. The lists come one by one, as C passes them.
 #![tactic(auto, using(std::proofs::lemmas::Grind::common_steps, crate::proofs::Refusals::of_draws), unfolding(crate::proofs::Opened::splines))]
 
 ghost use Rattle.std.specs.Prelude.{◌≡◌, [], ◌∷◌, length};

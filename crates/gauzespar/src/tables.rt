@@ -1,4 +1,4 @@
-// Starting and building.
+// Starting and building. The lists come one by one, as C passes them.
 #![tactic(auto, unfolding(crate::proofs::Opened::tables))]
 
 ghost use Rattle.std.specs.Prelude.{◌≡◌};

@@ -18,7 +18,7 @@ pub struct Blend<'a> {
 }
 
 // The value with one row's part, which is read only where the weight w is not zero. Rows count
-// from 1 here.
+// from 1 here. Row and weight are another at each step, so no type holds the arguments.
 #[tactic(auto, unfolding(crate::specs::Blend::add_row))]
 fn add_row(table: &[f32], m: usize, row: usize, col: usize, w: f32, value: f32) -> f32
     requires col_held { col < m }

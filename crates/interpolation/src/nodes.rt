@@ -9,7 +9,8 @@ use crate::eights::count_below;
 use answers::Refusal;
 use std::simd::prelude::*;
 
-// A list of two nodes or more that check 6 passes.
+// A list of two nodes or more that check 6 passes. How many they are at most, which a `Place` needs, is
+// no part of it: check 6 is made of lists of any length.
 #[derive(Clone, Copy)]
 pub struct Nodes<'a> {
     pub list: &'a [f32],

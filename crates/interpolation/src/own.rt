@@ -85,7 +85,7 @@ fn check_sample<'a>(
 
 // A draw from the table of values over the two node lists, whose rows' integrals are in `cdf`:
 // alpha picks the rows that are blended, u the place, in at most `allowance` rounds. None where
-// alpha is outside. Refusals: 1, 2, 5, 6, 9, 10, 13.
+// alpha is outside. The lists come one by one, as in the Rust. Refusals: 1, 2, 5, 6, 9, 10, 13.
 pub fn sample_2d(
     nodes1: &[f32],
     nodes2: &[f32],

@@ -105,7 +105,7 @@ pub fn four_at(nodes: &[f32], x: f32, i: usize) -> Four
     Four { w0, w1, w2, w3 }
 }
 
-// Whether x lies within the ends of the nodes; a NaN does not.
+// Whether x lies within the ends of the nodes, which are any list of two or more; a NaN does not.
 #[tactic(auto, unfolding(crate::specs::Weights::within))]
 pub fn is_within(nodes: &[f32], x: f32) -> bool
     requires { 2 ≤ length nodes.now }
@@ -114,7 +114,7 @@ pub fn is_within(nodes: &[f32], x: f32) -> bool
     nodes[0] <= x && x <= nodes[nodes.len() - 1]
 }
 
-// i - 1, as a signed number.
+// i - 1, as a signed number. By hand, since it is -1 at 0.
 #[tactic(auto, unfolding(crate::specs::Weights::offset_of))]
 fn offset_of(i: usize) -> i32
     requires { i ≤ 0x7fff_ffff }

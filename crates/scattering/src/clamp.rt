@@ -1,4 +1,4 @@
-// `clamp_t` of pbrt.rs.
+// `clamp_t` of pbrt.rs, for any limits: std's `clamp` asks that `low` is at most `high`.
 #![tactic(auto, unfolding(crate::specs::Clamp::clamp_t))]
 
 ghost use Rattle.std.specs.Prelude.{◌≡◌};

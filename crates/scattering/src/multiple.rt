@@ -27,6 +27,7 @@ pub struct Dipole {
 
 #[tactic(auto, unfolding(crate::specs::Multiple::dipole, crate::specs::Multiple::ms_term))]
 impl Dipole {
+    // By the arguments of `beam_diffusion_ms`.
     fn new(sigma_s: f32, sigma_a: f32, g: f32, eta: f32, r: f32) -> Dipole
         ensures { result ≡ Multiple.dipole sigma_s sigma_a g eta r }
     {
@@ -62,7 +63,7 @@ impl Dipole {
     }
 }
 
-// The same as `beam_diffusion_ms`, for a caller that has the logarithms.
+// The same as `beam_diffusion_ms`, by its arguments, for a caller that has the logarithms.
 pub fn beam_diffusion_ms_with(
     sigma_s: f32,
     sigma_a: f32,

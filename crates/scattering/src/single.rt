@@ -19,7 +19,7 @@ fn term(rho: f32, d: f32, cos_theta_o: f32, attenuation: f32, phase: f32, fresne
     rho * attenuation / (d * d) * phase * (1.0 - fresnel) * elementary::abs(cos_theta_o)
 }
 
-// The same as `beam_diffusion_ss`, for a caller that has the logarithms.
+// The same as `beam_diffusion_ss`, by its arguments, for a caller that has the logarithms.
 pub fn beam_diffusion_ss_with(
     sigma_s: f32,
     sigma_a: f32,

@@ -154,7 +154,7 @@ impl From<[f32; 3]> for Spectrum {
     }
 }
 
-// The black spectrum, whose channels are +0.
+// The black spectrum, whose channels are +0: what the constant is, which has no contract itself.
 pub fn black() -> Spectrum
     ensures { result ≡ Spectra.black }
 {

@@ -18,7 +18,8 @@ pub enum Call {
     Ask(Query),
 }
 
-// What a call answers where it is not refused: that a row is built, or the value of a query.
+// What a call answers where it is not refused: that a row is built, or the value of a query. `Done` is
+// one reply of four, and no sign that a value is missing.
 #[derive(Clone, Copy)]
 pub enum Reply {
     Done,

@@ -23,7 +23,7 @@ pub fn ask(t: Table<'_>, q: Query) -> Result<Reply, Refusal>
     }
 }
 
-// One call after a start.
+// One call after a start, by a match like that of queries.
 #[tactic(auto, unfolding(answers::specs::Refusal::told, table::specs::Parameters::outcome_told, crate::specs::Calls::told, crate::specs::Calls::reply_value, crate::specs::Calls::step, crate::specs::Calls::call_of))]
 pub fn step(t: &mut TableMut<'_>, call: Call) -> Result<Reply, Refusal>
     ensures effect { effect (Calls.told result) (lists_of_mut t.new) ≡ Calls.step t.old.record (lists_of_mut t.old) (Calls.call_of call) }
