@@ -4,7 +4,7 @@
 #![tactic(auto)]
 
 use std::io;
-use words::{Failure, Line, Malformed, Output};
+use words::{Line, Malformed, Output};
 
 // What a function gives.
 #[derive(Clone, Copy)]
@@ -29,12 +29,12 @@ fn result(line: &[u8]) -> Result<Value, Malformed> {
     Ok(value)
 }
 
-fn answer(line: &[u8], out: &mut Output) -> Result<(), Failure> {
+fn answer(line: &[u8], out: &mut Output) -> Result<(), Malformed> {
     let value = result(line)?;
-    out.bytes(line)?;
+    out.text(line);
     match value {
-        Value::Float(x) => out.entries(&[x])?,
-        Value::Double(x) => out.long_bits(elementary::double_to_bits(x))?,
+        Value::Float(x) => out.entries(&[x]),
+        Value::Double(x) => out.long_bits(elementary::double_to_bits(x)),
     }
     Ok(())
 }

@@ -1,15 +1,14 @@
 // The answers to lines about lists.
-ghost use Rattle.std.specs.Prelude.{◌≡◌, ◌≤◌, is_ok, is_some, is_none, leb, length, take};
+ghost use Rattle.std.specs.Prelude.{◌≡◌, ◌≤◌, is_ok, is_err, is_some, is_none, leb, length, take};
 ghost use Rattle.table.specs.Parameters.{lists_of_mut, lists_of_lent};
 ghost use Rattle.words.specs.Line.{left};
-ghost use Rattle.words.specs.Failure.{is_malformed};
 ghost use Rattle.lists.specs.Lists as Spec;
 
 use crate::hash::Hash;
 use crate::list::{AnyRoom, AnyUsed, List};
 use crate::name::{CELLS, LENT, Name, RADII, ROWS};
 use table::{Lent, Record, TableMut};
-use words::{Failure, Line, Malformed, Output};
+use words::{Line, Malformed, Output};
 
 // A table's six lists, and a caller's own: two lists of nodes, values and a CDF.
 #[derive(Drop)]
@@ -175,62 +174,71 @@ impl Lists {
         names: &[Name; N],
         mut line: Line<'_>,
         out: &mut Output,
-    ) -> Result<(), Failure>
+    ) -> Result<(), Malformed>
         requires { N ≤ 10 }
         ensures lists { self.new ≡ Spec.lens names.now (left line.entry) self.old }
-        ensures malformed { is_malformed result ≡ is_none (Spec.lens_of names.now (left line.entry)) }
+        ensures malformed { is_err result ≡ is_none (Spec.lens_of names.now (left line.entry)) }
     {
         let lens = line.numbers::<u32, N>()?;
         line.end()?;
         check_lens(names, &lens)?;
         self.set_lens(names, &lens);
-        Ok(out.text("ok")?)
+        out.text(b"ok");
+        Ok(())
     }
 
-    pub fn put(&mut self, mut line: Line<'_>, out: &mut Output) -> Result<(), Failure> {
+    pub fn put(&mut self, mut line: Line<'_>, out: &mut Output) -> Result<(), Malformed> {
         let name = Name::try_from(line.number::<u32>()?)?;
         let from = line.size()?;
         self.room_mut(name).put(from, line)?;
-        Ok(out.text("ok")?)
+        out.text(b"ok");
+        Ok(())
     }
 
-    pub fn fill(&mut self, mut line: Line<'_>, out: &mut Output) -> Result<(), Failure> {
+    pub fn fill(&mut self, mut line: Line<'_>, out: &mut Output) -> Result<(), Malformed> {
         let name = Name::try_from(line.number::<u32>()?)?;
         self.room_mut(name).fill(line)?;
-        Ok(out.text("ok")?)
+        out.text(b"ok");
+        Ok(())
     }
 
-    pub fn show(&self, mut line: Line<'_>, out: &mut Output) -> Result<(), Failure> {
+    pub fn show(&self, mut line: Line<'_>, out: &mut Output) -> Result<(), Malformed> {
         let number = line.number::<u32>()?;
         let name = Name::try_from(number)?;
         line.end()?;
-        out.text("list")?;
-        out.int(number)?;
-        Ok(self.list(name).show(out)?)
+        out.text(b"list");
+        out.int(number);
+        self.list(name).show(out);
+        Ok(())
     }
 
-    // A hash of these lists.
-    pub fn dump(&self, names: &[Name], line: Line<'_>, out: &mut Output) -> Result<(), Failure>
-        ensures { is_malformed result ≡ is_some (left line.entry) }
-    {
-        line.end()?;
+    fn show_hash(&self, names: &[Name], out: &mut Output) {
         let mut hash = Hash::new();
         for name in names {
             self.list(*name).join(&mut hash);
         }
-        out.text("hash")?;
-        Ok(out.long_bits(hash.0)?)
+        out.text(b"hash");
+        out.long_bits(hash.0);
+    }
+
+    // A hash of these lists.
+    pub fn dump(&self, names: &[Name], line: Line<'_>, out: &mut Output) -> Result<(), Malformed>
+        ensures { is_err result ≡ is_some (left line.entry) }
+    {
+        line.end().map(|()| self.show_hash(names, out))
+    }
+
+    fn show_lent(&self, out: &mut Output) {
+        out.text(b"lists");
+        for name in LENT {
+            self.list(name).show(out);
+        }
     }
 
     // The table's lists whole.
-    pub fn dump_all(&self, line: Line<'_>, out: &mut Output) -> Result<(), Failure>
-        ensures { is_malformed result ≡ is_some (left line.entry) }
+    pub fn dump_all(&self, line: Line<'_>, out: &mut Output) -> Result<(), Malformed>
+        ensures { is_err result ≡ is_some (left line.entry) }
     {
-        line.end()?;
-        out.text("lists")?;
-        for name in LENT {
-            self.list(name).show(out)?;
-        }
-        Ok(())
+        line.end().map(|()| self.show_lent(out))
     }
 }

@@ -3,7 +3,6 @@
 ghost use Rattle.std.specs.Prelude.{◌≡◌, take, leb, is_ok};
 
 use crate::hash::Hash;
-use std::io;
 use words::{Entry, Line, Malformed, Output};
 
 #[derive(Drop)]
@@ -55,9 +54,9 @@ pub(crate) struct Used<'a, T> {
 
 impl<T: Entry> Used<'_, T> {
     // Writes the length and the entries.
-    fn show(&self, out: &mut Output) -> io::Result<()> {
-        out.int(self.len)?;
-        out.entries(self.entries)
+    fn show(&self, out: &mut Output) {
+        out.int(self.len);
+        out.entries(self.entries);
     }
 
     // Joins the length and the entries to a hash.
@@ -77,7 +76,7 @@ pub(crate) enum AnyUsed<'a> {
 }
 
 impl AnyUsed<'_> {
-    pub(crate) fn show(&self, out: &mut Output) -> io::Result<()> {
+    pub(crate) fn show(&self, out: &mut Output) {
         match self {
             AnyUsed::Floats(list) => list.show(out),
             AnyUsed::Bytes(list) => list.show(out),

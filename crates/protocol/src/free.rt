@@ -1,19 +1,18 @@
 // The calls on no list, and the answers that several calls have.
 use answers::Refusal;
-use std::io;
-use words::{Failure, Line, Malformed, Output};
+use words::{Line, Malformed, Output};
 
-pub(crate) fn refused(refusal: Refusal, out: &mut Output) -> io::Result<()> {
-    out.text("refused")?;
-    out.int(u32::from(refusal))
+pub(crate) fn refused(refusal: Refusal, out: &mut Output) {
+    out.text(b"refused");
+    out.int(u32::from(refusal));
 }
 
-pub(crate) fn sw(mut line: Line<'_>, out: &mut Output) -> Result<(), Failure> {
+pub(crate) fn sw(mut line: Line<'_>, out: &mut Output) -> Result<(), Malformed> {
     let [eta, cosine] = line.numbers::<f32, 2>()?;
     line.end()?;
     match scattering::sw(eta, cosine) {
-        Ok(s) => out.values("value", &<[f32; 3]>::from(s))?,
-        Err(refusal) => refused(refusal, out)?,
+        Ok(s) => out.values(b"value", &<[f32; 3]>::from(s)),
+        Err(refusal) => refused(refusal, out),
     }
     Ok(())
 }
@@ -23,19 +22,21 @@ pub(crate) fn of_one<F: FnOnce(f32) -> f32>(
     line: Line<'_>,
     out: &mut Output,
     f: F,
-) -> Result<(), Failure>
+) -> Result<(), Malformed>
     requires { F.IsAlwaysCallable f }
 {
     let x = line.last()?;
-    Ok(out.values("value", &[f(x)])?)
+    out.values(b"value", &[f(x)]);
+    Ok(())
 }
 
 // L, which document 01 has at normal numbers between 0 and 1.
-pub(crate) fn ln(line: Line<'_>, out: &mut Output) -> Result<(), Failure> {
+pub(crate) fn ln(line: Line<'_>, out: &mut Output) -> Result<(), Malformed> {
     let bits: u32 = line.last()?;
     if !(0x0080_0000..0x3f80_0000).contains(&bits) {
-        return Err(Failure::Line(Malformed));
+        return Err(Malformed);
     }
     let x = elementary::bits_to_float(bits);
-    Ok(out.values("value", &[elementary::ln(x)])?)
+    out.values(b"value", &[elementary::ln(x)]);
+    Ok(())
 }

@@ -3,9 +3,8 @@ use crate::free::refused;
 use bssrdf::{Coefficients, WorldRadius};
 use lists::Lists;
 use scattering::{RGBEnum, Spectrum};
-use std::io;
 use table::Record;
-use words::{Failure, Line, Malformed, Output};
+use words::{Line, Malformed, Output};
 use workstations::{Call, Query, Reply};
 
 // ---- arguments
@@ -29,26 +28,26 @@ fn channel(line: &mut Line<'_>) -> Result<RGBEnum, Malformed> {
 
 // ---- answers
 
-fn drawn(radius: f32, rounds: u32, out: &mut Output) -> io::Result<()> {
-    out.values("value", &[radius])?;
-    out.int(rounds)
+fn drawn(radius: f32, rounds: u32, out: &mut Output) {
+    out.values(b"value", &[radius]);
+    out.int(rounds);
 }
 
-fn tell(reply: Reply, out: &mut Output) -> io::Result<()> {
+fn tell(reply: Reply, out: &mut Output) {
     match reply {
-        Reply::Done => out.text("done"),
-        Reply::Radiance(s) => out.values("value", &<[f32; 3]>::from(s)),
-        Reply::Density(density) => out.values("value", &[density]),
+        Reply::Done => out.text(b"done"),
+        Reply::Radiance(s) => out.values(b"value", &<[f32; 3]>::from(s)),
+        Reply::Density(density) => out.values(b"value", &[density]),
         Reply::Drawn(d) => drawn(d.radius, d.rounds, out),
     }
 }
 
 // ---- the calls
 
-fn step(r: Record, call: Call, lists: &mut Lists, out: &mut Output) -> Result<(), Failure> {
+fn step(r: Record, call: Call, lists: &mut Lists, out: &mut Output) -> Result<(), Malformed> {
     match workstations::step(&mut lists.table(r), call) {
-        Ok(reply) => tell(reply, out)?,
-        Err(refusal) => refused(refusal, out)?,
+        Ok(reply) => tell(reply, out),
+        Err(refusal) => refused(refusal, out),
     }
     Ok(())
 }
@@ -57,12 +56,12 @@ pub(crate) fn start(
     mut line: Line<'_>,
     lists: &mut Lists,
     out: &mut Output,
-) -> Result<(), Failure> {
+) -> Result<(), Malformed> {
     let r = record(&mut line)?;
     line.end()?;
     match table::start(r, &mut lists.lent()) {
-        Ok(()) => out.text("done")?,
-        Err(refusal) => refused(refusal, out)?,
+        Ok(()) => out.text(b"done"),
+        Err(refusal) => refused(refusal, out),
     }
     Ok(())
 }
@@ -71,14 +70,14 @@ pub(crate) fn build(
     mut line: Line<'_>,
     lists: &mut Lists,
     out: &mut Output,
-) -> Result<(), Failure> {
+) -> Result<(), Malformed> {
     let r = record(&mut line)?;
     let row = line.size()?;
     line.end()?;
     step(r, Call::Build(row), lists, out)
 }
 
-pub(crate) fn sr(mut line: Line<'_>, lists: &mut Lists, out: &mut Output) -> Result<(), Failure> {
+pub(crate) fn sr(mut line: Line<'_>, lists: &mut Lists, out: &mut Output) -> Result<(), Malformed> {
     let r = record(&mut line)?;
     let c = coefficients(&mut line)?;
     let x = WorldRadius(line.last()?);
@@ -89,7 +88,7 @@ pub(crate) fn pdf_sr(
     mut line: Line<'_>,
     lists: &mut Lists,
     out: &mut Output,
-) -> Result<(), Failure> {
+) -> Result<(), Malformed> {
     let r = record(&mut line)?;
     let c = coefficients(&mut line)?;
     let ch = channel(&mut line)?;
@@ -101,7 +100,7 @@ pub(crate) fn sample_sr(
     mut line: Line<'_>,
     lists: &mut Lists,
     out: &mut Output,
-) -> Result<(), Failure> {
+) -> Result<(), Malformed> {
     let r = record(&mut line)?;
     let c = coefficients(&mut line)?;
     let ch = channel(&mut line)?;

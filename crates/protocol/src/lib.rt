@@ -8,10 +8,10 @@ mod lent;
 mod own;
 
 use lists::{LENT, Lists, OWN};
-use words::{Failure, Line, Malformed, Output};
+use words::{Line, Malformed, Output};
 
 // Answers a line, if it has one of the forms and fits the lists.
-pub fn answer(text: &[u8], lists: &mut Lists, out: &mut Output) -> Result<(), Failure> {
+pub fn answer(text: &[u8], lists: &mut Lists, out: &mut Output) -> Result<(), Malformed> {
     let mut line = Line::new(text);
     match line.word()? {
         b"lens" => lists.lens(&LENT, line, out),
@@ -34,6 +34,6 @@ pub fn answer(text: &[u8], lists: &mut Lists, out: &mut Output) -> Result<(), Fa
         b"q" => free::of_one(line, out, elementary::sqrt),
         b"e" => free::of_one(line, out, elementary::exp),
         b"l" => free::ln(line, out),
-        _ => Err(Failure::Line(Malformed)),
+        _ => Err(Malformed),
     }
 }

@@ -3,23 +3,26 @@ use crate::free::refused;
 use interpolation::sample::Sample;
 use interpolation::weights::Weights;
 use lists::{Lists, Own};
-use std::io;
-use words::{Failure, Line, Output};
+use words::{Line, Malformed, Output};
 
-fn tell_weights(weights: Weights, out: &mut Output) -> io::Result<()> {
+fn tell_weights(weights: Weights, out: &mut Output) {
     let Weights { offset, four } = weights;
-    out.text("value")?;
-    out.int(offset)?;
-    out.entries(&<[f32; 4]>::from(four))
+    out.text(b"value");
+    out.int(offset);
+    out.entries(&<[f32; 4]>::from(four));
 }
 
-pub(crate) fn weights(line: Line<'_>, lists: &mut Lists, out: &mut Output) -> Result<(), Failure> {
+pub(crate) fn weights(
+    line: Line<'_>,
+    lists: &mut Lists,
+    out: &mut Output,
+) -> Result<(), Malformed> {
     let x = line.last()?;
     let Own { nodes1, .. } = lists.own();
     match interpolation::own::weights(nodes1, x) {
-        Ok(Some(weights)) => tell_weights(weights, out)?,
-        Ok(None) => out.text("outside")?,
-        Err(refusal) => refused(refusal, out)?,
+        Ok(Some(weights)) => tell_weights(weights, out),
+        Ok(None) => out.text(b"outside"),
+        Err(refusal) => refused(refusal, out),
     }
     Ok(())
 }
@@ -28,7 +31,7 @@ pub(crate) fn integrate(
     line: Line<'_>,
     lists: &mut Lists,
     out: &mut Output,
-) -> Result<(), Failure> {
+) -> Result<(), Malformed> {
     line.end()?;
     let Own {
         nodes1,
@@ -37,22 +40,22 @@ pub(crate) fn integrate(
         ..
     } = lists.own();
     match interpolation::own::integrate(nodes1, values, cdf) {
-        Ok(sum) => out.values("value", &[sum])?,
-        Err(refusal) => refused(refusal, out)?,
+        Ok(sum) => out.values(b"value", &[sum]),
+        Err(refusal) => refused(refusal, out),
     }
     Ok(())
 }
 
-fn tell_sample(sample: Sample, out: &mut Output) -> io::Result<()> {
-    out.values("value", &[sample.position, sample.value, sample.density])?;
-    out.int(sample.rounds)
+fn tell_sample(sample: Sample, out: &mut Output) {
+    out.values(b"value", &[sample.position, sample.value, sample.density]);
+    out.int(sample.rounds);
 }
 
 pub(crate) fn sample_2d(
     mut line: Line<'_>,
     lists: &mut Lists,
     out: &mut Output,
-) -> Result<(), Failure> {
+) -> Result<(), Malformed> {
     let [alpha, u] = line.numbers::<f32, 2>()?;
     let allowance = line.number()?;
     line.end()?;
@@ -63,9 +66,9 @@ pub(crate) fn sample_2d(
         cdf,
     } = lists.own();
     match interpolation::own::sample_2d(nodes1, nodes2, values, cdf, alpha, u, allowance) {
-        Ok(Some(sample)) => tell_sample(sample, out)?,
-        Ok(None) => out.text("outside 00000000 0")?,
-        Err(refusal) => refused(refusal, out)?,
+        Ok(Some(sample)) => tell_sample(sample, out),
+        Ok(None) => out.text(b"outside 00000000 0"),
+        Err(refusal) => refused(refusal, out),
     }
     Ok(())
 }

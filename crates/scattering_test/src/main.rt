@@ -6,7 +6,7 @@
 use answers::Refusal;
 use scattering::{RGBEnum, Spectrum};
 use std::io;
-use words::{Failure, Line, Malformed, Output};
+use words::{Line, Malformed, Output};
 
 // What a function gives. A refusal is one of the kinds of answers that are printed.
 #[derive(Clone, Copy)]
@@ -94,20 +94,21 @@ fn result(line: &mut Line<'_>) -> Result<Value, Malformed> {
     }
 }
 
-fn show(value: Value, out: &mut Output) -> io::Result<()> {
+fn show(value: Value, out: &mut Output) {
     match value {
-        Value::Float(x) => out.values("v", &[x]),
-        Value::Whole(s) => out.values("v", &<[f32; 3]>::from(s)),
-        Value::Truth(is_true) => out.values("v", &[u32::from(is_true)]),
-        Value::Refused(refusal) => out.values("r", &[u32::from(refusal)]),
+        Value::Float(x) => out.values(b"v", &[x]),
+        Value::Whole(s) => out.values(b"v", &<[f32; 3]>::from(s)),
+        Value::Truth(is_true) => out.values(b"v", &[u32::from(is_true)]),
+        Value::Refused(refusal) => out.values(b"r", &[u32::from(refusal)]),
     }
 }
 
-fn answer(line: &[u8], out: &mut Output) -> Result<(), Failure> {
+fn answer(line: &[u8], out: &mut Output) -> Result<(), Malformed> {
     let mut line = Line::new(line);
     let value = result(&mut line)?;
     line.end()?;
-    Ok(show(value, out)?)
+    show(value, out);
+    Ok(())
 }
 
 fn main(rt: HostRuntime) -> io::Result<()> {

@@ -1,3 +1,2 @@
 -- The definitions that the contracts of `words` cite.
 pub mod Line
-pub mod Failure

@@ -3,7 +3,7 @@ ghost use Rattle.std.specs.Prelude.{◌≡◌, ℕ, ltb, if◌then◌else◌, Op
 ghost use Rattle.std.specs.Result.{result_ok};
 ghost use Rattle.std.specs.Float.{binary32};
 
-use crate::failure::Malformed;
+use crate::malformed::Malformed;
 
 pub trait Entry: Copy + Default + Drop {
     ghost of_bits: { ℕ → Option Self };

@@ -1,5 +1,5 @@
 // The lines of standard input, each ended by one LF, which the last may lack.
-use crate::failure::{Failure, Malformed};
+use crate::malformed::Malformed;
 use crate::output::Output;
 use std::alloc::Global;
 use std::io::{BufRead, BufReader, Read, Stdin, Stdout};
@@ -58,7 +58,7 @@ impl Input {
     }
 }
 
-fn answer_all<F: FnMut(&[u8], &mut Output) -> Result<(), Failure>>(
+fn answer_all<F: FnMut(&[u8], &mut Output) -> Result<(), Malformed>>(
     mut input: Input,
     out: &mut Output,
     mut answer: F,
@@ -72,21 +72,19 @@ fn answer_all<F: FnMut(&[u8], &mut Output) -> Result<(), Failure>>(
         }
         let answered = match input.text() {
             Ok(line) => answer(line, out),
-            Err(malformed) => Err(Failure::Line(malformed)),
+            Err(malformed) => Err(malformed),
         };
-        match answered {
-            Ok(()) => {}
-            Err(Failure::Line(_)) => out.text("bad")?,
-            Err(Failure::Write(e)) => return Err(e),
+        if answered.is_err() {
+            out.text(b"bad");
         }
-        out.text("\n")?;
+        out.text(b"\n");
     }
     Ok(())
 }
 
 // Has each line of standard input answered, up to its end. One that is malformed, and one of more than
 // 2,000 bytes, gets `bad`.
-pub fn answer_lines<F: FnMut(&[u8], &mut Output) -> Result<(), Failure>>(
+pub fn answer_lines<F: FnMut(&[u8], &mut Output) -> Result<(), Malformed>>(
     alloc: Global,
     from: Stdin,
     to: Stdout,

@@ -3,15 +3,15 @@
 #![tactic(auto)]
 
 mod entry;
-mod failure;
 mod input;
 mod line;
+mod malformed;
 mod number;
 mod output;
 
 pub use entry::Entry;
-pub use failure::{Failure, Malformed};
 pub use input::answer_lines;
 pub use line::Line;
+pub use malformed::Malformed;
 pub use number::Number;
 pub use output::Output;

@@ -5,7 +5,7 @@ ghost use Rattle.std.specs.Result.{result_ok};
 ghost use Rattle.words.specs.Line as Spec;
 
 use crate::entry::Entry;
-use crate::failure::Malformed;
+use crate::malformed::Malformed;
 use crate::number::{Number, entry};
 use arrayvec::ArrayVec;
 

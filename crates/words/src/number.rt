@@ -5,7 +5,7 @@ ghost use Rattle.std.specs.Result.{result_ok};
 ghost use Rattle.words.specs.Line as Spec;
 
 use crate::entry::Entry;
-use crate::failure::Malformed;
+use crate::malformed::Malformed;
 
 // By hand, since std's `to_digit` takes upper case too.
 fn digit<const BASE: u64>(c: u8) -> Option<u64>

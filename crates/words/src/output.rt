@@ -1,6 +1,7 @@
 // The text of answers. It gathers in a buffer, and goes to standard output when that is full and
-// before more input is read. What is written has no contract, since std has no word for the bytes that
-// a writer took.
+// before more input is read. Once a write has failed nothing more is written: `flush` tells it, and
+// `end` lets go of what is left. What is written has no contract, since std has no word for the bytes
+// that a writer took.
 use crate::entry::Entry;
 use std::alloc::Global;
 use std::fmt::Display;
@@ -10,30 +11,32 @@ use std::io::{BufWriter, Stdout, Write};
 #[derive(Drop)]
 pub struct Output {
     to: BufWriter<Stdout>,
+    failure: Option<io::Error>,
 }
 
 impl Output {
     pub(crate) fn new(alloc: Global, to: Stdout) -> io::Result<Output> {
         Ok(Output {
             to: BufWriter::with_capacity(alloc, 65536, to)?,
+            failure: None,
         })
     }
 
-    pub fn bytes(&mut self, bytes: &[u8]) -> io::Result<()> {
-        self.to.write_all(bytes)
-    }
-
-    pub fn text(&mut self, text: &str) -> io::Result<()> {
-        self.bytes(text.as_bytes())
+    pub fn text(&mut self, text: &[u8]) {
+        if self.failure.is_none() {
+            self.failure = self.to.write_all(text).err();
+        }
     }
 
     // A space and the number in decimal.
-    pub fn int<N: Display + Drop>(&mut self, n: N) -> io::Result<()> {
-        write!(self.to, " {n}")
+    pub fn int<N: Display + Drop>(&mut self, n: N) {
+        if self.failure.is_none() {
+            self.failure = write!(self.to, " {n}").err();
+        }
     }
 
     // By hand, since with `{n:08x}` `elementary_test` takes half as long again.
-    fn digits(&mut self, n: u32) -> io::Result<()> {
+    fn digits(&mut self, n: u32) {
         const DIGITS: &[u8; 16] = b"0123456789abcdef";
         let mut text = [0u8; 8];
         let mut rest = n;
@@ -41,37 +44,39 @@ impl Output {
             *place = DIGITS[(rest >> 28) as usize];
             rest <<= 4;
         }
-        self.bytes(&text)
+        self.text(&text);
     }
 
     // A space and 8 digits.
-    pub(crate) fn bits(&mut self, n: u32) -> io::Result<()> {
-        self.text(" ")?;
-        self.digits(n)
+    pub(crate) fn bits(&mut self, n: u32) {
+        self.text(b" ");
+        self.digits(n);
     }
 
     // A space and 16 digits.
-    pub fn long_bits(&mut self, n: u64) -> io::Result<()> {
-        self.bits((n >> 32) as u32)?;
-        self.digits((n & 0xffff_ffff) as u32)
+    pub fn long_bits(&mut self, n: u64) {
+        self.bits((n >> 32) as u32);
+        self.digits((n & 0xffff_ffff) as u32);
     }
 
     // The bits of each entry.
-    pub fn entries<T: Entry>(&mut self, xs: &[T]) -> io::Result<()> {
+    pub fn entries<T: Entry>(&mut self, xs: &[T]) {
         for x in xs {
-            self.bits(x.bits())?;
+            self.bits(x.bits());
         }
-        Ok(())
     }
 
     // A word, and the bits of each entry.
-    pub fn values<T: Entry>(&mut self, word: &str, xs: &[T]) -> io::Result<()> {
-        self.text(word)?;
-        self.entries(xs)
+    pub fn values<T: Entry>(&mut self, word: &[u8], xs: &[T]) {
+        self.text(word);
+        self.entries(xs);
     }
 
     pub(crate) fn flush(&mut self) -> io::Result<()> {
-        self.to.flush()
+        match self.failure.take() {
+            Some(e) => Err(e),
+            None => self.to.flush(),
+        }
     }
 
     // Writes what is left, if all has gone well. A `BufWriter` that is dropped would write it anyhow.
@@ -81,7 +86,7 @@ impl Output {
             Err(e) => Err(e),
         };
         if whole.is_err() {
-            let Output { to } = self;
+            let Output { to, failure: _ } = self;
             let _unwritten = to.into_parts();
         }
         whole
