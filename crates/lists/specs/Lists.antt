@@ -1,12 +1,40 @@
 -- The ten lists: what they lend, and what a line of lengths makes of them.
-use Rattle.std.specs.Prelude.{ℕ, Bool, true, ◌&&◌, leb, is_none, List, [], ◌∷◌, length, take, if◌then◌else◌, Option, Some, None, option_and_then}
+use Rattle.std.specs.Prelude.{◌≡◌, ℕ, ◌<◌, Bool, true, ◌&&◌, leb, is_none, List, [], ◌∷◌, length, take, if◌then◌else◌, Option, Some, None, option_and_then, Result, MatchResult}
 use Rattle.std.specs.Option.{option_map_or}
 use Rattle.words.specs.Line.{after_words, int, nexts}
+use Rattle.words.specs.declared.malformed.Malformed.{Malformed}
 use Rattle.table.specs.Parameters as Table
 use Rattle.lists.specs.declared.lines.Lists.{Lists}
 use Rattle.lists.specs.declared.name.Name.{Name}
 use Rattle.lists.specs.declared.name.Name.TheVariants.{Rho, Radii, Profile, Eff, Cdf, Marks, Nodes1, Nodes2, Values, OwnCdf}
-use Rattle.lists.specs.declared.name.TheConstants.{ROWS, RADII, CELLS}
+
+-- ---- names
+
+-- the number of a list
+abbrev pub number : Name → ℕ
+number Rho = 0
+number Radii = 1
+number Profile = 2
+number Eff = 3
+number Cdf = 4
+number Marks = 5
+number Nodes1 = 6
+number Nodes2 = 7
+number Values = 8
+number OwnCdf = 9
+
+-- the result is the list of this number, or an error where it is no list's
+abbrev pub Numbers : ℕ → Result Name Malformed → Type 0
+Numbers n r = MatchResult r (λ name. number name ≡ n) (λ _. 9 < n)
+
+-- the lists of a table, and a caller's own
+abbrev pub lent : List Name
+lent = Rho ∷ Radii ∷ Profile ∷ Eff ∷ Cdf ∷ Marks ∷ []
+
+abbrev pub own : List Name
+own = Nodes1 ∷ Nodes2 ∷ Values ∷ OwnCdf ∷ []
+
+-- ---- what is lent
 
 -- the used parts of a table's lists
 abbrev pub table : Lists → Table.Lists
@@ -18,16 +46,16 @@ table l =
 
 -- for how many entries a list has room
 abbrev pub capacity : Name → ℕ
-capacity Rho = ROWS
-capacity Radii = RADII
-capacity Profile = CELLS
-capacity Eff = ROWS
-capacity Cdf = CELLS
-capacity Marks = ROWS
-capacity Nodes1 = ROWS
-capacity Nodes2 = ROWS
-capacity Values = CELLS
-capacity OwnCdf = CELLS
+capacity Rho = 130
+capacity Radii = 66
+capacity Profile = 8580
+capacity Eff = 130
+capacity Cdf = 8580
+capacity Marks = 130
+capacity Nodes1 = 130
+capacity Nodes2 = 130
+capacity Values = 8580
+capacity OwnCdf = 8580
 
 -- the lists with another length of this one
 abbrev pub set_len : Name → ℕ → Lists → Lists

@@ -8,4 +8,4 @@ mod list;
 mod name;
 
 pub use lines::{Lists, Own};
-pub use name::{LENT, Name, OWN};
+pub use name::{LENT, Name, OWN, names};

@@ -39,6 +39,12 @@ pub const LENT: [Name; 6] = [
 // A caller's own.
 pub const OWN: [Name; 4] = [Name::Nodes1, Name::Nodes2, Name::Values, Name::OwnCdf];
 
+// Which they are: that is the contract, and the function does nothing.
+pub fn names()
+    ensures lent { LENT ≡ Spec.lent }
+    ensures own { OWN ≡ Spec.own }
+{}
+
 impl Name {
     // For how many entries the list has room.
     pub(crate) fn capacity(self) -> usize
@@ -55,6 +61,9 @@ impl Name {
 impl TryFrom<u32> for Name {
     type Error = Malformed;
 
+    ghost try_from_gives = { Spec.Numbers };
+
+    // The list of a number.
     fn try_from(number: u32) -> Result<Name, Malformed> {
         match number {
             0 => Ok(Name::Rho),
