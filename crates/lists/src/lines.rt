@@ -1,11 +1,11 @@
 // The answers to lines about lists.
-ghost use Rattle.std.specs.Prelude.{◌≡◌, ◌≤◌, is_ok, is_err, is_some, is_none, leb, length, take};
+ghost use Rattle.std.specs.Prelude.{◌≡◌, ◌≤◌, true, is_ok, is_err, is_some, is_none, leb, length, take};
 ghost use Rattle.table.specs.Parameters.{lists_of_mut, lists_of_lent};
 ghost use Rattle.words.specs.Line.{left};
 ghost use Rattle.lists.specs.Lists as Spec;
 
 use crate::hash::Hash;
-use crate::list::{AnyRoom, AnyUsed, List};
+use crate::list::{AnyUsed, List};
 use crate::name::{CELLS, LENT, Name, RADII, ROWS};
 use table::{Lent, Record, TableMut};
 use words::{Line, Malformed, Output};
@@ -127,22 +127,6 @@ impl Lists {
         }
     }
 
-    // The same whole, to be written. A match of its own, since no function is generic over `&` and `&mut`.
-    fn room_mut(&mut self, name: Name) -> AnyRoom<'_> {
-        match name {
-            Name::Rho => AnyRoom::Floats(self.rho.room_mut()),
-            Name::Radii => AnyRoom::Floats(self.radii.room_mut()),
-            Name::Profile => AnyRoom::Floats(self.profile.room_mut()),
-            Name::Eff => AnyRoom::Floats(self.eff.room_mut()),
-            Name::Cdf => AnyRoom::Floats(self.cdf.room_mut()),
-            Name::Marks => AnyRoom::Bytes(self.marks.room_mut()),
-            Name::Nodes1 => AnyRoom::Floats(self.nodes1.room_mut()),
-            Name::Nodes2 => AnyRoom::Floats(self.nodes2.room_mut()),
-            Name::Values => AnyRoom::Floats(self.values.room_mut()),
-            Name::OwnCdf => AnyRoom::Floats(self.own_cdf.room_mut()),
-        }
-    }
-
     fn set_len(&mut self, name: Name, len: u32)
         ensures { self.new ≡ Spec.set_len name len self.old }
     {
@@ -187,17 +171,57 @@ impl Lists {
         Ok(())
     }
 
-    pub fn put(&mut self, mut line: Line<'_>, out: &mut Output) -> Result<(), Malformed> {
+    // Stores a line's entries in a list. A malformed line changes nothing.
+    fn put_in(&mut self, name: Name, from: usize, line: Line<'_>) -> Result<(), Malformed>
+        ensures { is_err result ≡ true → self.new ≡ self.old }
+    {
+        match name {
+            Name::Rho => self.rho.put(from, line.entries()?.as_slice()),
+            Name::Radii => self.radii.put(from, line.entries()?.as_slice()),
+            Name::Profile => self.profile.put(from, line.entries()?.as_slice()),
+            Name::Eff => self.eff.put(from, line.entries()?.as_slice()),
+            Name::Cdf => self.cdf.put(from, line.entries()?.as_slice()),
+            Name::Marks => self.marks.put(from, line.entries()?.as_slice()),
+            Name::Nodes1 => self.nodes1.put(from, line.entries()?.as_slice()),
+            Name::Nodes2 => self.nodes2.put(from, line.entries()?.as_slice()),
+            Name::Values => self.values.put(from, line.entries()?.as_slice()),
+            Name::OwnCdf => self.own_cdf.put(from, line.entries()?.as_slice()),
+        }
+    }
+
+    // Fills a list. A malformed line changes nothing.
+    fn fill_in(&mut self, name: Name, line: Line<'_>) -> Result<(), Malformed>
+        ensures { is_err result ≡ true → self.new ≡ self.old }
+    {
+        match name {
+            Name::Rho => self.rho.fill(line),
+            Name::Radii => self.radii.fill(line),
+            Name::Profile => self.profile.fill(line),
+            Name::Eff => self.eff.fill(line),
+            Name::Cdf => self.cdf.fill(line),
+            Name::Marks => self.marks.fill(line),
+            Name::Nodes1 => self.nodes1.fill(line),
+            Name::Nodes2 => self.nodes2.fill(line),
+            Name::Values => self.values.fill(line),
+            Name::OwnCdf => self.own_cdf.fill(line),
+        }
+    }
+
+    pub fn put(&mut self, mut line: Line<'_>, out: &mut Output) -> Result<(), Malformed>
+        ensures { is_err result ≡ true → self.new ≡ self.old }
+    {
         let name = Name::try_from(line.number::<u32>()?)?;
         let from = line.size()?;
-        self.room_mut(name).put(from, line)?;
+        self.put_in(name, from, line)?;
         out.text(b"ok");
         Ok(())
     }
 
-    pub fn fill(&mut self, mut line: Line<'_>, out: &mut Output) -> Result<(), Malformed> {
+    pub fn fill(&mut self, mut line: Line<'_>, out: &mut Output) -> Result<(), Malformed>
+        ensures { is_err result ≡ true → self.new ≡ self.old }
+    {
         let name = Name::try_from(line.number::<u32>()?)?;
-        self.room_mut(name).fill(line)?;
+        self.fill_in(name, line)?;
         out.text(b"ok");
         Ok(())
     }

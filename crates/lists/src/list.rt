@@ -1,6 +1,6 @@
 // A list: its capacity's room, and its length. What lies beyond the length stays as it is, and the
 // memory is fixed, so the room is an array beside a length and no `Vec`.
-ghost use Rattle.std.specs.Prelude.{◌≡◌, take, leb, is_ok};
+ghost use Rattle.std.specs.Prelude.{◌≡◌, take, true, is_err};
 
 use crate::hash::Hash;
 use words::{Entry, Line, Malformed, Output};
@@ -34,8 +34,28 @@ impl<T: Entry, const N: usize> List<T, N> {
         }
     }
 
-    pub(crate) fn room_mut(&mut self) -> &mut [T] {
-        &mut self.room[..]
+    // Stores entries from a place on, if they end within the capacity.
+    pub(crate) fn put(&mut self, from: usize, entries: &[T]) -> Result<(), Malformed>
+        ensures { is_err result ≡ true → self.new ≡ self.old }
+    {
+        if from > N || entries.len() > N - from {
+            return Err(Malformed);
+        }
+        let room = &mut self.room[..];
+        room[from..from + entries.len()].copy_from_slice(entries);
+        Ok(())
+    }
+
+    // Fills the whole capacity with a line's entry. By hand, since std's `fill` at a type parameter asks
+    // that no clone can fail.
+    pub(crate) fn fill(&mut self, line: Line<'_>) -> Result<(), Malformed>
+        ensures { is_err result ≡ true → self.new ≡ self.old }
+    {
+        let entry = line.last::<T>()?;
+        for place in self.room.iter_mut() {
+            *place = entry;
+        }
+        Ok(())
     }
 
     pub(crate) fn set_len(&mut self, len: u32)
@@ -88,45 +108,5 @@ impl AnyUsed<'_> {
             AnyUsed::Floats(list) => list.join(hash),
             AnyUsed::Bytes(list) => list.join(hash),
         }
-    }
-}
-
-// Stores entries from a place on, if they end within the capacity.
-fn put<T: Entry>(room: &mut [T], from: usize, entries: &[T]) -> Result<(), Malformed> {
-    let after = room.get_mut(from..).ok_or(Malformed)?;
-    let places = after.get_mut(..entries.len()).ok_or(Malformed)?;
-    places.copy_from_slice(entries);
-    Ok(())
-}
-
-// Fills the whole capacity. By hand, since std's `fill` at a type parameter asks that no clone can
-// fail.
-fn fill<T: Entry>(room: &mut [T], entry: T) {
-    for place in room.iter_mut() {
-        *place = entry;
-    }
-}
-
-// The room of a list of any capacity and any entries.
-#[derive(Drop)]
-pub(crate) enum AnyRoom<'a> {
-    Floats(&'a mut [f32]),
-    Bytes(&'a mut [u8]),
-}
-
-impl AnyRoom<'_> {
-    pub(crate) fn put(self, from: usize, line: Line<'_>) -> Result<(), Malformed> {
-        match self {
-            AnyRoom::Floats(room) => put(room, from, line.entries()?.as_slice()),
-            AnyRoom::Bytes(room) => put(room, from, line.entries()?.as_slice()),
-        }
-    }
-
-    pub(crate) fn fill(self, line: Line<'_>) -> Result<(), Malformed> {
-        match self {
-            AnyRoom::Floats(room) => fill(room, line.last()?),
-            AnyRoom::Bytes(room) => fill(room, line.last()?),
-        }
-        Ok(())
     }
 }
