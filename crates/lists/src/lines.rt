@@ -211,7 +211,7 @@ impl Lists {
         ensures { is_err result ≡ true → self.new ≡ self.old }
     {
         let name = Name::try_from(line.number::<u32>()?)?;
-        let from = line.size()?;
+        let from = line.number::<usize>()?;
         self.put_in(name, from, line)?;
         out.text(b"ok");
         Ok(())

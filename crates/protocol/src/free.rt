@@ -2,18 +2,29 @@
 use answers::Refusal;
 use words::{Line, Malformed, Output};
 
-pub(crate) fn refused(refusal: Refusal, out: &mut Output) {
-    out.text(b"refused");
-    out.int(u32::from(refusal));
+// Tells what a call gave, or the number of its refusal.
+pub(crate) fn answered<T, F: FnOnce(T, &mut Output)>(
+    reply: Result<T, Refusal>,
+    out: &mut Output,
+    tell: F,
+)
+    requires { F.IsAlwaysCallable tell }
+{
+    match reply {
+        Ok(x) => tell(x, out),
+        Err(refusal) => {
+            out.text(b"refused");
+            out.int(u32::from(refusal));
+        }
+    }
 }
 
 pub(crate) fn sw(mut line: Line<'_>, out: &mut Output) -> Result<(), Malformed> {
     let [eta, cosine] = line.numbers::<f32, 2>()?;
     line.end()?;
-    match scattering::sw(eta, cosine) {
-        Ok(s) => out.values(b"value", &<[f32; 3]>::from(s)),
-        Err(refusal) => refused(refusal, out),
-    }
+    answered(scattering::sw(eta, cosine), out, |s, out| {
+        out.values(b"value", &<[f32; 3]>::from(s));
+    });
     Ok(())
 }
 

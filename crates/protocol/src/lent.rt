@@ -1,5 +1,5 @@
 // The calls on the six lists that a table lends.
-use crate::free::refused;
+use crate::free::answered;
 use bssrdf::{Coefficients, WorldRadius};
 use lists::Lists;
 use scattering::{RGBEnum, Spectrum};
@@ -10,8 +10,7 @@ use workstations::{Call, Query, Reply};
 // ---- arguments
 
 fn record(line: &mut Line<'_>) -> Result<Record, Malformed> {
-    let n = line.size()?;
-    let m = line.size()?;
+    let [n, m] = line.numbers::<usize, 2>()?;
     let [g, eta] = line.numbers::<f32, 2>()?;
     Ok(Record::new(n, m, g, eta))
 }
@@ -44,12 +43,9 @@ fn tell(reply: Reply, out: &mut Output) {
 
 // ---- the calls
 
-fn step(r: Record, call: Call, lists: &mut Lists, out: &mut Output) -> Result<(), Malformed> {
-    match workstations::step(&mut lists.table(r), call) {
-        Ok(reply) => tell(reply, out),
-        Err(refusal) => refused(refusal, out),
-    }
-    Ok(())
+fn step(r: Record, call: Call, lists: &mut Lists, out: &mut Output) {
+    let result = workstations::step(&mut lists.table(r), call);
+    answered(result, out, tell);
 }
 
 pub(crate) fn start(
@@ -59,10 +55,8 @@ pub(crate) fn start(
 ) -> Result<(), Malformed> {
     let r = record(&mut line)?;
     line.end()?;
-    match table::start(r, &mut lists.lent()) {
-        Ok(()) => out.text(b"done"),
-        Err(refusal) => refused(refusal, out),
-    }
+    let result = table::start(r, &mut lists.lent());
+    answered(result, out, |(), out| out.text(b"done"));
     Ok(())
 }
 
@@ -72,45 +66,53 @@ pub(crate) fn build(
     out: &mut Output,
 ) -> Result<(), Malformed> {
     let r = record(&mut line)?;
-    let row = line.size()?;
+    let row = line.number::<usize>()?;
     line.end()?;
-    step(r, Call::Build(row), lists, out)
+    step(r, Call::Build(row), lists, out);
+    Ok(())
 }
 
-pub(crate) fn sr(mut line: Line<'_>, lists: &mut Lists, out: &mut Output) -> Result<(), Malformed> {
-    let r = record(&mut line)?;
-    let c = coefficients(&mut line)?;
-    let x = WorldRadius(line.last()?);
-    step(r, Call::Ask(Query::Sr(c, x)), lists, out)
-}
-
-pub(crate) fn pdf_sr(
-    mut line: Line<'_>,
+// A query on a table, which `query` reads after the record and the coefficients.
+fn ask<'a, F: FnOnce(Coefficients, Line<'a>) -> Result<Query, Malformed>>(
+    mut line: Line<'a>,
     lists: &mut Lists,
     out: &mut Output,
-) -> Result<(), Malformed> {
+    query: F,
+) -> Result<(), Malformed>
+    requires { F.IsAlwaysCallable query }
+{
     let r = record(&mut line)?;
     let c = coefficients(&mut line)?;
-    let ch = channel(&mut line)?;
-    let x = WorldRadius(line.last()?);
-    step(r, Call::Ask(Query::PdfSr(ch, c, x)), lists, out)
+    let query = query(c, line)?;
+    step(r, Call::Ask(query), lists, out);
+    Ok(())
+}
+
+pub(crate) fn sr(line: Line<'_>, lists: &mut Lists, out: &mut Output) -> Result<(), Malformed> {
+    ask(line, lists, out, |c, line| {
+        let x = WorldRadius(line.last()?);
+        Ok(Query::Sr(c, x))
+    })
+}
+
+pub(crate) fn pdf_sr(line: Line<'_>, lists: &mut Lists, out: &mut Output) -> Result<(), Malformed> {
+    ask(line, lists, out, |c, mut line| {
+        let ch = channel(&mut line)?;
+        let x = WorldRadius(line.last()?);
+        Ok(Query::PdfSr(ch, c, x))
+    })
 }
 
 pub(crate) fn sample_sr(
-    mut line: Line<'_>,
+    line: Line<'_>,
     lists: &mut Lists,
     out: &mut Output,
 ) -> Result<(), Malformed> {
-    let r = record(&mut line)?;
-    let c = coefficients(&mut line)?;
-    let ch = channel(&mut line)?;
-    let u = line.number()?;
-    let allowance = line.number()?;
-    line.end()?;
-    step(
-        r,
-        Call::Ask(Query::SampleSr(ch, c, u, allowance)),
-        lists,
-        out,
-    )
+    ask(line, lists, out, |c, mut line| {
+        let ch = channel(&mut line)?;
+        let u = line.number()?;
+        let allowance = line.number()?;
+        line.end()?;
+        Ok(Query::SampleSr(ch, c, u, allowance))
+    })
 }

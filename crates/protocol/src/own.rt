@@ -1,15 +1,19 @@
 // The calls on a caller's own lists: two of nodes, values and a CDF.
-use crate::free::refused;
+use crate::free::answered;
 use interpolation::sample::Sample;
 use interpolation::weights::Weights;
 use lists::{Lists, Own};
 use words::{Line, Malformed, Output};
 
-fn tell_weights(weights: Weights, out: &mut Output) {
-    let Weights { offset, four } = weights;
-    out.text(b"value");
-    out.int(offset);
-    out.entries(&<[f32; 4]>::from(four));
+fn tell_weights(weights: Option<Weights>, out: &mut Output) {
+    match weights {
+        Some(Weights { offset, four }) => {
+            out.text(b"value");
+            out.int(offset);
+            out.entries(&<[f32; 4]>::from(four));
+        }
+        None => out.text(b"outside"),
+    }
 }
 
 pub(crate) fn weights(
@@ -19,11 +23,7 @@ pub(crate) fn weights(
 ) -> Result<(), Malformed> {
     let x = line.last()?;
     let Own { nodes1, .. } = lists.own();
-    match interpolation::own::weights(nodes1, x) {
-        Ok(Some(weights)) => tell_weights(weights, out),
-        Ok(None) => out.text(b"outside"),
-        Err(refusal) => refused(refusal, out),
-    }
+    answered(interpolation::own::weights(nodes1, x), out, tell_weights);
     Ok(())
 }
 
@@ -39,16 +39,19 @@ pub(crate) fn integrate(
         cdf,
         ..
     } = lists.own();
-    match interpolation::own::integrate(nodes1, values, cdf) {
-        Ok(sum) => out.values(b"value", &[sum]),
-        Err(refusal) => refused(refusal, out),
-    }
+    let result = interpolation::own::integrate(nodes1, values, cdf);
+    answered(result, out, |sum, out| out.values(b"value", &[sum]));
     Ok(())
 }
 
-fn tell_sample(sample: Sample, out: &mut Output) {
-    out.values(b"value", &[sample.position, sample.value, sample.density]);
-    out.int(sample.rounds);
+fn tell_sample(sample: Option<Sample>, out: &mut Output) {
+    match sample {
+        Some(s) => {
+            out.values(b"value", &[s.position, s.value, s.density]);
+            out.int(s.rounds);
+        }
+        None => out.text(b"outside 00000000 0"),
+    }
 }
 
 pub(crate) fn sample_2d(
@@ -65,10 +68,7 @@ pub(crate) fn sample_2d(
         values,
         cdf,
     } = lists.own();
-    match interpolation::own::sample_2d(nodes1, nodes2, values, cdf, alpha, u, allowance) {
-        Ok(Some(sample)) => tell_sample(sample, out),
-        Ok(None) => out.text(b"outside 00000000 0"),
-        Err(refusal) => refused(refusal, out),
-    }
+    let result = interpolation::own::sample_2d(nodes1, nodes2, values, cdf, alpha, u, allowance);
+    answered(result, out, tell_sample);
     Ok(())
 }

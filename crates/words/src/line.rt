@@ -70,13 +70,6 @@ impl<'a> Line<'a> {
         Ok(xs)
     }
 
-    pub fn size(&mut self) -> Result<usize, Malformed>
-        ensures int { result_ok result ≡ Spec.next Spec.int (Spec.left self.old) }
-        ensures rest { Spec.left self.new ≡ Spec.after (Spec.left self.old) }
-    {
-        Ok(self.number::<u32>()? as usize)
-    }
-
     pub fn entry<T: Entry>(&mut self) -> Result<T, Malformed>
         ensures entry { result_ok result ≡ Spec.next (Spec.entry T.of_bits) (Spec.left self.old) }
         ensures rest { Spec.left self.new ≡ Spec.after (Spec.left self.old) }

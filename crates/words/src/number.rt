@@ -66,7 +66,8 @@ pub(crate) fn entry<T: Entry>(word: &[u8]) -> Result<T, Malformed>
     T::from_bits(u32::try_from(n).map_err(|_| Malformed)?)
 }
 
-// The numbers that a word is: an INT as a `u32`, and a BITS as a float, of 32 or 64 bits by its digits.
+// The numbers that a word is: an INT as a `u32` or a `usize`, and a BITS as a float, of 32 or 64 bits by
+// its digits.
 pub trait Number: Copy + Default + Drop {
     ghost of_word: { List ℕ → Option Self };
 
@@ -79,6 +80,14 @@ impl Number for u32 {
 
     fn read(word: &[u8]) -> Result<u32, Malformed> {
         int(word).ok_or(Malformed)
+    }
+}
+
+impl Number for usize {
+    ghost of_word = { Spec.int };
+
+    fn read(word: &[u8]) -> Result<usize, Malformed> {
+        Ok(int(word).ok_or(Malformed)? as usize)
     }
 }
 
