@@ -15,22 +15,14 @@ use scattering::Spectrum;
 pub fn optical_radii(sigma_t: Spectrum, x: WorldRadius) -> [OpticalRadius; 3]
     ensures { result ≡ optical x sigma_t.r ∷ optical x sigma_t.g ∷ optical x sigma_t.b ∷ [] }
 {
-    [
-        x.optical(sigma_t.r),
-        x.optical(sigma_t.g),
-        x.optical(sigma_t.b),
-    ]
+    <[f32; 3]>::from(sigma_t).map(|s| x.optical(s))
 }
 
 // And these as values on the radius axis.
 pub fn radius_values(xs: [OpticalRadius; 3]) -> [f32; 3]
     ensures { result ≡ radius_values xs }
 {
-    [
-        xs[0].mean_free_paths(),
-        xs[1].mean_free_paths(),
-        xs[2].mean_free_paths(),
-    ]
+    xs.map(|x| x.mean_free_paths())
 }
 
 // Whether a channel is inside: its albedo and its optical radius are.
@@ -89,11 +81,7 @@ impl Axis {
         ensures at { result.at ≡ three_of (λ k. node_interval nodes.entry.list.now (get_or xs k nan)) }
         ensures weights { result.weights ≡ three_weights nodes.entry.list.now xs result.at }
     {
-        let at = [
-            nodes.find_interval(xs[0]),
-            nodes.find_interval(xs[1]),
-            nodes.find_interval(xs[2]),
-        ];
+        let at = xs.map(|x| nodes.find_interval(x));
         let weights = three_weights(nodes.list, xs, at);
         Axis { at, weights }
     }
