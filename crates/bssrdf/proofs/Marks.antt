@@ -5,11 +5,15 @@ use mathlib.Core.List.{List, [], ◌∷◌, ◌++◌}
 use Prim.Native.Nat.{ℕ}
 use lib.IntN.{ℤ}
 use lib.Ieee.{Float, eq}
+use Rattle.std.specs.Prelude.{Option, Some, None, is_some, IfSome}
+use Rattle.std.specs.Option.{option_map_or}
 use Rattle.elementary.specs.Notation.{lit}
-use Rattle.interpolation.specs.Weights.{weight_at, over_four}
+use Rattle.interpolation.specs.Weights.{weight_at, over_four, offset_of}
 use Rattle.interpolation.specs.Blend.{row_of}
 use Rattle.interpolation.specs.declared.weights.Four.{Four}
-use Rattle.bssrdf.specs.Needed.{row_if, weighted_rows, is_marked, all_marked}
+use Rattle.interpolation.specs.declared.weights.Place.{Place}
+use Rattle.bssrdf.specs.Axes.{weights_by}
+use Rattle.bssrdf.specs.Needed.{row_if, weighted_rows, rows_of, is_marked, all_marked}
 
 -- the row k is marked, or its weight is zero
 abbrev pub Ready : List ℕ → Float → ℕ → Bool
@@ -49,6 +53,13 @@ unfolding weighted_rows all_marked
 four_marked marks o f =
     rw (marked_if marks f.w0 _ _, marked_if marks f.w1 _ _, marked_if marks f.w2 _ _, marked_if marks f.w3 _ _)
     (four_ands (Ready marks f.w0 (row_of o 0)) (Ready marks f.w1 (row_of o 1)) (Ready marks f.w2 (row_of o 2)) (Ready marks f.w3 (row_of o 3)))
+
+-- the rows of a channel, which has a place where it is inside
+pub channel_marked : (marks : List ℕ) (inside : Bool) (i : ℕ) (f : Four) (place : Option Place) → is_some place ≡ inside → IfSome place (λ p. (p.interval ≡ i) × (p.four ≡ f))
+    → option_map_or (λ p. all_marked marks (weighted_rows (offset_of p.interval) p.four)) place true ≡ all_marked marks (rows_of (weights_by inside i f))
+unfolding weights_by rows_of all_marked
+channel_marked marks inside i f None e s = rw (← e) refl
+channel_marked marks inside i f (Some p) e s = rw (← e, s.0, s.1) refl
 
 -- the rows of three channels
 pub three_marked : (marks xs ys zs : List ℕ) → all_marked marks (xs ++ (ys ++ zs)) ≡ (all_marked marks xs && all_marked marks ys && all_marked marks zs)

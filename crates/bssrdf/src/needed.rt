@@ -1,6 +1,7 @@
 // Whether the rows that a query needs are built.
 ghost use Rattle.std.specs.Prelude.{◌≡◌, cond, true, false, [], ◌++◌, ℕ, ◌-◌, ◌≤◌, ◌<◌, length, get_or};
 ghost use Rattle.std.specs.Float.Ieee.{eq};
+ghost use Rattle.std.specs.Option.{ForSome, option_map_or};
 ghost use Rattle.elementary.specs.Notation.{lit};
 ghost use Rattle.interpolation.specs.Weights.{four_of, offset_of};
 ghost use Rattle.interpolation.specs.Laws.{Reach};
@@ -30,24 +31,25 @@ pub fn are_marked(marks: &[u8], p: Place) -> bool
     p.over_four(true, |row, w, ready| ready & is_ready(marks, row, w))
 }
 
-// The same of one channel of three, which needs no row where it is outside.
-#[tactic(auto, unfolding(crate::specs::Axes::weights_by, crate::specs::Needed::rows_of, crate::specs::Needed::all_marked))]
-fn is_channel_ready(marks: &[u8], inside: bool, p: Place) -> bool
-    requires { inside ≡ true → Reach p.four p.interval (length marks.now) }
-    ensures { result ≡ Needed.all_marked marks.now (Needed.rows_of (weights_by inside p.interval p.four)) }
+// The same of one channel of three, which needs no row where it is outside, and so has no place.
+fn is_channel_ready(marks: &[u8], place: Option<Place>) -> bool
+    requires { ForSome place (λ p. Reach p.four p.interval (length marks.now)) }
+    ensures { result ≡ option_map_or (λ p. Needed.all_marked marks.now (Needed.weighted_rows (offset_of p.interval) p.four)) place true }
 {
-    if inside { are_marked(marks, p) } else { true }
+    match place {
+        Some(p) => are_marked(marks, p),
+        None => true,
+    }
 }
 
 // And of all three.
-#[tactic(auto, using(crate::proofs::Marks::three_marked))]
 pub fn are_ready(marks: &[u8], inside: [bool; 3], rho: Axis) -> bool
     requires { (k : ℕ) → k < 3 → get_or inside k false ≡ true → Reach (four_of (get_or rho.weights k [])) (get_or rho.at k 0) (length marks.now) }
     ensures { result ≡ Needed.all_marked marks.now (Needed.rows_of (weights_by (get_or inside 0 false) (get_or rho.at 0 0) (four_of (get_or rho.weights 0 [])))
         ++ (Needed.rows_of (weights_by (get_or inside 1 false) (get_or rho.at 1 0) (four_of (get_or rho.weights 1 []))) ++ Needed.rows_of (weights_by (get_or inside 2 false) (get_or rho.at 2 0) (four_of (get_or rho.weights 2 []))))) }
 {
-    let r = is_channel_ready(marks, inside[0], rho.place(0));
-    let g = is_channel_ready(marks, inside[1], rho.place(1));
-    let b = is_channel_ready(marks, inside[2], rho.place(2));
+    let r = is_channel_ready(marks, inside[0].then(|| rho.place(0)));
+    let g = is_channel_ready(marks, inside[1].then(|| rho.place(1)));
+    let b = is_channel_ready(marks, inside[2].then(|| rho.place(2)));
     r & g & b
 }

@@ -1,14 +1,15 @@
 // The offered call `sr`.
 ghost use Rattle.std.specs.Prelude.{◌≡◌, true, false, [], ℕ, ◌<◌, get_or};
 ghost use Rattle.std.specs.Float.{inf};
+ghost use Rattle.std.specs.Option.{option_map_or};
 ghost use Rattle.elementary.specs.Notation.{lit};
 ghost use Rattle.table.specs.Parameters.{lists_of};
 ghost use Rattle.answers.specs.Answer.{answered};
 ghost use Rattle.scattering.specs.Spectrum.{rgb, times, clamp};
 ghost use Rattle.scattering.specs.Exitance.{spectrum_value};
 ghost use Rattle.bssrdf.specs.Coefficients.{optical};
-ghost use Rattle.interpolation.specs.Weights.{four_of};
-ghost use Rattle.bssrdf.specs.Axes.{weights_by};
+ghost use Rattle.interpolation.specs.Weights.{four_of, offset_of};
+ghost use Rattle.bssrdf.specs.declared.coefficients.OpticalRadius.{OpticalRadius};
 ghost use Rattle.bssrdf.specs.Checks.{check12};
 ghost use Rattle.bssrdf.specs.Radiance as Spec;
 
@@ -19,7 +20,6 @@ use crate::grid::Cells;
 use crate::needed::are_ready;
 use answers::Refusal;
 use elementary::PI;
-use interpolation::weights::Place;
 use scattering::Spectrum;
 use table::Table;
 
@@ -32,29 +32,41 @@ pub fn cancel(x: OpticalRadius, v: f32) -> f32
     if r == 0.0 { v } else { v / (2.0 * PI * r) }
 }
 
-// A channel in optical units: 0 where it is outside.
-#[tactic(auto, unfolding(crate::specs::Axes::weights_by, crate::specs::Radiance::channel_sr))]
-fn channel_sr(
-    profile: &[f32],
-    m: usize,
-    inside: bool,
-    x: OpticalRadius,
-    rho: Place,
-    radius: Place,
-) -> f32
-    requires { inside ≡ true → Spec.Readable profile.now m rho.interval rho.four radius.interval radius.four }
-    ensures { result ≡ Spec.channel_sr profile.now m x (weights_by inside rho.interval rho.four) (weights_by inside radius.interval radius.four) }
+// A channel in optical units: 0 where it is outside, and so has no cells.
+fn channel_sr(x: OpticalRadius, cells: Option<Cells<'_>>) -> f32
+    ensures { result ≡ option_map_or (λ c. Spec.cancelled x (Spec.tensor c.profile.now c.m (offset_of c.rho.interval) c.rho.four (offset_of c.radius.interval) c.radius.four)) cells.entry (lit 0) }
 {
-    if !inside {
-        return 0.0;
+    match cells {
+        Some(cells) => cancel(x, cells.tensor()),
+        None => 0.0,
     }
-    let cells = Cells {
+}
+
+// The cells of the channel k, which has none where it is outside: by them it is the channel.
+#[tactic(auto, unfolding(crate::specs::Axes::weights_by, crate::specs::Radiance::channel_sr))]
+fn cells_of<'a>(
+    profile: &'a [f32],
+    m: usize,
+    inside: [bool; 3],
+    rho: Axis,
+    radius: Axis,
+    k: usize,
+) -> Option<Cells<'a>>
+    requires channel { k < 3 }
+    requires readable { get_or inside k false ≡ true
+        → Spec.Readable profile.now m (get_or rho.at k 0) (four_of (get_or rho.weights k [])) (get_or radius.at k 0) (four_of (get_or radius.weights k [])) }
+    ensures { (x : OpticalRadius) → option_map_or (λ c. Spec.cancelled x (Spec.tensor c.profile.now c.m (offset_of c.rho.interval) c.rho.four (offset_of c.radius.interval) c.radius.four)) result (lit 0)
+        ≡ Spec.channel_by profile.now m x inside rho.at rho.weights radius.at radius.weights k }
+{
+    if !inside[k] {
+        return None;
+    }
+    Some(Cells {
         profile,
         m,
-        rho,
-        radius,
-    };
-    cancel(x, cells.tensor())
+        rho: rho.place(k),
+        radius: radius.place(k),
+    })
 }
 
 // The three channels in optical units.
@@ -73,31 +85,14 @@ fn three_channels(
         (Spec.channel_by profile.now m (optical x sigma_t.g) inside rho.at rho.weights radius.at radius.weights 1)
         (Spec.channel_by profile.now m (optical x sigma_t.b) inside rho.at rho.weights radius.at radius.weights 2) }
 {
-    let r = channel_sr(
-        profile,
-        m,
-        inside[0],
-        x.optical(sigma_t.r),
-        rho.place(0),
-        radius.place(0),
-    );
-    let g = channel_sr(
-        profile,
-        m,
-        inside[1],
-        x.optical(sigma_t.g),
-        rho.place(1),
-        radius.place(1),
-    );
-    let b = channel_sr(
-        profile,
-        m,
-        inside[2],
-        x.optical(sigma_t.b),
-        rho.place(2),
-        radius.place(2),
-    );
-    Spectrum { r, g, b }
+    let r = cells_of(profile, m, inside, rho, radius, 0);
+    let g = cells_of(profile, m, inside, rho, radius, 1);
+    let b = cells_of(profile, m, inside, rho, radius, 2);
+    Spectrum {
+        r: channel_sr(x.optical(sigma_t.r), r),
+        g: channel_sr(x.optical(sigma_t.g), g),
+        b: channel_sr(x.optical(sigma_t.b), b),
+    }
 }
 
 // The channels in the world's units, each clamped from 0 on; 12 where one is a NaN.
