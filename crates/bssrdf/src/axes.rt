@@ -33,7 +33,7 @@ pub fn is_inside(rho_samples: &[f32], radius_samples: &[f32], rho: f32, x: Optic
     is_within(rho_samples, rho) & is_within(radius_samples, x.mean_free_paths())
 }
 
-// The same of three channels, whose values stand in arrays of three, as document 01 has them.
+// The same of three channels, whose values stand in arrays of three, as their weights do.
 pub fn are_inside(
     rho_samples: &[f32],
     radius_samples: &[f32],
@@ -50,7 +50,8 @@ pub fn are_inside(
     ]
 }
 
-// The weights of three values, each in its interval.
+// The weights of three values, each in its interval: arrays of three, since document 01 has the weights
+// in one.
 #[tactic(auto, unfolding(crate::specs::Axes::three_weights))]
 pub fn three_weights(nodes: &[f32], xs: [f32; 3], at: [usize; 3]) -> [[f32; 4]; 3]
     requires { (k : ℕ) → k < 3 → get_or at k 0 + 1 < length nodes.now }

@@ -72,7 +72,7 @@ pub fn check_rows_of(t: Table<'_>) -> Result<Nodes<'_>, Refusal>
     check_axis(t.rho_samples)
 }
 
-// Then 6 of the radius nodes, and 8.
+// Then 6 of the radius nodes, which are two or more where the first part has passed, and 8.
 #[inline(always)]
 #[tactic(auto, using(crate::proofs::TwoParts::refusing), unfolding(answers::specs::Refusal::number_of))]
 pub fn check_radii_of(radius_samples: &[f32], c: Coefficients) -> Result<Nodes<'_>, Refusal>

@@ -85,7 +85,7 @@ pub struct Cells<'a> {
 }
 
 impl Cells<'_> {
-    // The tensor spline.
+    // The tensor spline. Beside `profile_sum`, since their steps differ.
     #[tactic(auto, using(crate::proofs::Cells::reading))]
     pub fn tensor(self) -> f32
         ensures { result ≡ Radiance.tensor self.entry.profile.now self.entry.m (offset_of self.entry.rho.interval) self.entry.rho.four (offset_of self.entry.radius.interval) self.entry.radius.four }

@@ -13,6 +13,7 @@ enum Value {
     Double(f64),
 }
 
+// By the line's name, which is text.
 fn result(line: &[u8]) -> Result<Value, Malformed> {
     let mut line = Line::new(line);
     let value = match line.word()? {

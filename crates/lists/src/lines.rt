@@ -127,6 +127,7 @@ impl Lists {
         }
     }
 
+    // A match for each thing that is done to a list, since the ten have five types.
     fn set_len(&mut self, name: Name, len: u32)
         ensures { self.new ≡ Spec.set_len name len self.old }
     {

@@ -10,7 +10,8 @@ mod own;
 use lists::{LENT, Lists, OWN};
 use words::{Line, Malformed, Output};
 
-// Answers a line, if it has one of the forms and fits the lists.
+// Answers a line, if it has one of the forms and fits the lists. A name is text, so a match tells which
+// call it makes.
 pub fn answer(text: &[u8], lists: &mut Lists, out: &mut Output) -> Result<(), Malformed> {
     let mut line = Line::new(text);
     match line.word()? {

@@ -60,6 +60,7 @@ fn channel(line: &mut Line<'_>) -> Result<Value, Malformed> {
 
 // ---- lines
 
+// By the line's name, which is text.
 fn result(line: &mut Line<'_>) -> Result<Value, Malformed> {
     match line.word()? {
         b"clamp_t" => {

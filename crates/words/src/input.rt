@@ -23,7 +23,7 @@ impl Input {
         })
     }
 
-    // Reads a line, and says whether there is one. All answers are written before it waits for input.
+    // Reads a line, and says whether there is one; its text stays here, where the next is read over it. All answers are written before it waits for input.
     fn read(&mut self, out: &mut Output) -> io::Result<bool> {
         if !self.from.buffer().contains(&b'\n') {
             out.flush()?;
@@ -65,7 +65,7 @@ fn answer_all<F: FnMut(&[u8], &mut Output) -> Result<(), Malformed>>(
 ) -> io::Result<()>
     requires { F.IsAlwaysCallable answer }
 {
-    // to the input's end
+    // to the input's end: how a loop with no other bound is written
     for _ in 0..u64::MAX {
         if !input.read(out)? {
             break;
