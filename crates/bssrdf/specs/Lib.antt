@@ -5,6 +5,7 @@ pub mod Needed
 pub mod Checks
 pub mod Question
 pub mod Radiance
+pub mod Cells
 pub mod Density
 pub mod Drawing
 pub mod Laws

@@ -1,16 +1,16 @@
 // The offered call `sr`.
 ghost use Rattle.std.specs.Prelude.{◌≡◌, true, false, [], ℕ, ◌<◌, get_or};
 ghost use Rattle.std.specs.Float.{inf};
-ghost use Rattle.std.specs.Option.{option_map_or};
 ghost use Rattle.elementary.specs.Notation.{lit};
 ghost use Rattle.table.specs.Parameters.{lists_of};
 ghost use Rattle.answers.specs.Answer.{answered};
 ghost use Rattle.scattering.specs.Spectrum.{rgb, times, clamp};
 ghost use Rattle.scattering.specs.Exitance.{spectrum_value};
 ghost use Rattle.bssrdf.specs.Coefficients.{optical};
-ghost use Rattle.interpolation.specs.Weights.{four_of, offset_of};
+ghost use Rattle.interpolation.specs.Weights.{four_of};
 ghost use Rattle.bssrdf.specs.declared.coefficients.OpticalRadius.{OpticalRadius};
 ghost use Rattle.bssrdf.specs.Checks.{check12};
+ghost use Rattle.bssrdf.specs.Cells.{sr_by};
 ghost use Rattle.bssrdf.specs.Radiance as Spec;
 
 use crate::axes::{Axis, are_inside, optical_radii, radius_values};
@@ -34,7 +34,7 @@ pub fn cancel(x: OpticalRadius, v: f32) -> f32
 
 // A channel in optical units: 0 where it is outside, and so has no cells.
 fn channel_sr(x: OpticalRadius, cells: Option<Cells<'_>>) -> f32
-    ensures { result ≡ option_map_or (λ c. Spec.cancelled x (Spec.tensor c.profile.now c.m (offset_of c.rho.interval) c.rho.four (offset_of c.radius.interval) c.radius.four)) cells.entry (lit 0) }
+    ensures { result ≡ sr_by x cells.entry }
 {
     match cells {
         Some(cells) => cancel(x, cells.tensor()),
@@ -55,8 +55,7 @@ fn cells_of<'a>(
     requires channel { k < 3 }
     requires readable { get_or inside k false ≡ true
         → Spec.Readable profile.now m (get_or rho.at k 0) (four_of (get_or rho.weights k [])) (get_or radius.at k 0) (four_of (get_or radius.weights k [])) }
-    ensures { (x : OpticalRadius) → option_map_or (λ c. Spec.cancelled x (Spec.tensor c.profile.now c.m (offset_of c.rho.interval) c.rho.four (offset_of c.radius.interval) c.radius.four)) result (lit 0)
-        ≡ Spec.channel_by profile.now m x inside rho.at rho.weights radius.at radius.weights k }
+    ensures { (x : OpticalRadius) → sr_by x result ≡ Spec.channel_by profile.now m x inside rho.at rho.weights radius.at radius.weights k }
 {
     if !inside[k] {
         return None;
