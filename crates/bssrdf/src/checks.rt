@@ -40,6 +40,7 @@ pub fn check_coefficients(c: Coefficients) -> Result<(), Refusal>
     refuse_unless(r & g & b, Refusal::Coefficients)
 }
 
+// A test and a refusal of its own, as each check has.
 #[tactic(auto, unfolding(answers::specs::Refusal::number, crate::specs::Checks::check12))]
 pub fn check_nans(s: Spectrum) -> Result<(), Refusal>
     ensures { number_of result ≡ Checks.check12 s }

@@ -11,7 +11,8 @@ ghost use Rattle.bssrdf.specs.Needed as Needed;
 use crate::axes::Axis;
 use interpolation::weights::Place;
 
-// Whether the row is marked built, or not needed since its weight w is zero. Rows count from 1 here.
+// Whether the row is marked built, or not needed since its weight w is zero. Rows count from 1 here. A
+// mark is a byte, as C lends it.
 #[tactic(auto, unfolding(crate::specs::Needed::is_marked))]
 fn is_ready(marks: &[u8], row: usize, w: f32) -> bool
     requires { eq w (lit 0) ≡ false → (1 ≤ row) × (row ≤ length marks.now) }

@@ -17,7 +17,7 @@ fn term(y: f64x2, k: f64, p: f64x2) -> f64x2
     f64x2::splat(1.0) + y / f64x2::splat(k) * p
 }
 
-// p to the 256th power, by eight squarings.
+// p to the 256th power, by eight squarings: so many turns are all that the loop has.
 #[tactic(auto, using(crate::proofs::Pairs::squares))]
 fn power_256(p: f64x2) -> f64x2
     ensures { result ≡ map (Exponential.squared 8) p }
@@ -103,6 +103,7 @@ fn series_each(xs: &[f32], room: &mut [f64])
     }
 }
 
+// By the series of each, which is read by index: of what `zip` over `iter_mut` lends a proof knows nothing.
 #[tactic(auto, using(crate::proofs::Mapped::mapping))]
 fn exp_of_each(xs: &mut [f32], room: &[f64])
     requires { room.now ≡ map Exponential.series xs.old }

@@ -1,4 +1,5 @@
-// Lists filled by a function, and sums by one: one element or one addend after the other.
+// Lists filled by a function, and sums by one: one element or one addend after the other. A second list
+// is read by index: of what `zip` over `iter_mut` lends a proof knows nothing.
 ghost use Rattle.std.specs.Prelude.{◌≡◌, ◌<◌, ℕ, Float, map, length, get_or};
 ghost use Rattle.std.specs.Float.{nan};
 ghost use Rattle.elementary.specs.Lists.{list_of, sum_to};
@@ -49,7 +50,7 @@ pub fn map_in_place<F: Fn(f32) -> f32>(xs: &mut [f32], f: F)
     }
 }
 
-// f(0) + f(1) + .., n addends, from +0 on.
+// f(0) + f(1) + .., n addends, from +0 on: there is no list, but numbers that f is given.
 #[tactic(auto, unfolding(crate::specs::Lists::sum_to))]
 pub fn sum_by<F: Fn(usize) -> f32>(n: usize, f: F) -> f32
     requires { (k : ℕ) → k < n → F.pre f k }

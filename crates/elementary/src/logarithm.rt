@@ -9,7 +9,7 @@ use super::constants::nan;
 use super::convert::narrow;
 use super::normal::Normal;
 
-// 1 + z / 3 + z^2 / 5 + .. to z^15 / 31, from the innermost term out.
+// 1 + z / 3 + z^2 / 5 + .. to z^15 / 31, from the innermost term out, whose number n is computed with.
 #[tactic(auto, unfolding(crate::specs::Logarithm::odds))]
 fn ln_terms(z: f64) -> f64
     ensures { result ≡ Logarithm.odds 15 z (one64 ⧄ c31) }

@@ -19,7 +19,7 @@ struct Radicand {
 }
 
 impl Radicand {
-    // The whole number nearest to the root of n, a binary digit at a time.
+    // The whole number nearest to the root of n, a binary digit at a time, by its place d.
     fn by_digits(self) -> u64
         ensures { result ≡ nearest_root self.n }
     {

@@ -40,6 +40,7 @@ fn answer(line: &[u8], out: &mut Output) -> Result<(), Malformed> {
     Ok(())
 }
 
+// A program has a `main` of its own: this one call.
 fn main(rt: HostRuntime) -> io::Result<()> {
     words::answer_lines(rt.alloc(), rt.stdin(), rt.stdout(), answer)
 }

@@ -1,5 +1,5 @@
 // The three queries: first what each writes into its output lists, and then the functions that C
-// calls, with numbers and lists alone: a channel is a number there.
+// calls, with numbers and lists alone, one by one: a channel is a number there.
 #![tactic(auto, using(std::proofs::lemmas::Grind::common_steps, crate::proofs::Refusals::of_draws), unfolding(crate::proofs::Opened::queries))]
 
 ghost use Rattle.std.specs.Prelude.{◌≡◌, ◌&&◌, eqb, length};

@@ -3,7 +3,8 @@ ghost use Rattle.std.specs.Prelude.{◌≡◌, ◌+◌, ◌≤◌, ◌<◌, ℕ,
 ghost use Rattle.std.specs.List.{count_by, range_with_len};
 
 // How many of the numbers below n pass a test: `eight` counts eight numbers from one on, and `one`
-// tells of one number whether it passes. No early exit, so that eight are compared at once.
+// tells of one number whether it passes. No early exit, so that eight are compared at once; the loops
+// are over numbers, since the two functions have the lists.
 #[tactic(auto, using(crate::proofs::Counting::count_more), unfolding(crate::proofs::Counting::count))]
 pub fn count_below<E: Fn(usize) -> usize, O: Fn(usize) -> bool>(n: usize, eight: E, one: O) -> usize
     requires eights { (i : ℕ) → i + 8 ≤ n → E.pre eight i }

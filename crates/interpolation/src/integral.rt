@@ -18,7 +18,8 @@ fn segment_integral(x: &[f32], values: &[f32], i: usize) -> f32
     ((d0 - d1) * (1.0 / 12.0) + (f0 + f1) * 0.5) * width
 }
 
-// The running sum up to each node goes to `cdf`, and the whole sum is returned.
+// The running sum up to each node goes to `cdf`, and the whole sum is returned. By index, since a turn
+// writes the place after the segment that it reads.
 pub fn integrate_catmull_rom(x: &[f32], values: &[f32], cdf: &mut [f32]) -> f32
     requires some { 1 ≤ length x.now }
     requires lengths { (length values.now ≡ length x.now) × (length cdf.old ≡ length x.now) }

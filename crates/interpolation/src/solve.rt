@@ -106,7 +106,8 @@ impl Segment {
         (f0 - elementary::sqrt(elementary::max0(f0 * f0 + 2.0 * u * (f1 - f0)))) / (f0 - f1)
     }
 
-    // Rounds from the first guess on, until one is the last; none where the allowance is used up.
+    // Rounds from the first guess on, until one is the last; none where the allowance is used up. The
+    // loop has nothing but the number of rounds.
     #[tactic(auto, unfolding(crate::specs::Solve::solve_from, crate::specs::Solve::solve))]
     pub fn solve(self, allowance: u32) -> Option<Solution>
         ensures { result ≡ Solve.solve self allowance }

@@ -111,7 +111,8 @@ impl Lists {
         }
     }
 
-    // The list of a name, to be read.
+    // A match for each thing that is done with a list of a name, here and below, since the ten have five
+    // types. First the list to be read.
     fn list(&self, name: Name) -> AnyUsed<'_> {
         match name {
             Name::Rho => AnyUsed::Floats(self.rho.used()),
@@ -127,7 +128,6 @@ impl Lists {
         }
     }
 
-    // A match for each thing that is done to a list, since the ten have five types.
     fn set_len(&mut self, name: Name, len: u32)
         ensures { self.new ≡ Spec.set_len name len self.old }
     {

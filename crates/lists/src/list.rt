@@ -65,7 +65,7 @@ impl<T: Entry, const N: usize> List<T, N> {
     }
 }
 
-// The used part of a list of any capacity.
+// The used part of a list of any capacity, with the length that a line gave it, which is shown and hashed.
 #[derive(Drop)]
 pub(crate) struct Used<'a, T> {
     len: u32,
@@ -88,7 +88,8 @@ impl<T: Entry> Used<'_, T> {
     }
 }
 
-// The same of any entries, since which list it is is known only when the line is read.
+// The same of any entries, since which list it is is known only when the line is read: a match of two
+// arms for each thing that is asked.
 #[derive(Drop)]
 pub(crate) enum AnyUsed<'a> {
     Floats(Used<'a, f32>),

@@ -1,4 +1,5 @@
-// The calls on the six lists that a table lends.
+// The calls on the six lists that a table lends. Each is given its line, the lists and the output, as
+// every arm of `answer` gives them.
 use crate::free::answered;
 use bssrdf::{Coefficients, WorldRadius};
 use lists::Lists;

@@ -12,6 +12,7 @@ use crate::spectrum::Spectrum;
 use answers::Refusal;
 use elementary::PI;
 
+// Its two checks.
 #[tactic(auto, using(answers::proofs::Results::checking), unfolding(answers::specs::Refusal::number_of, crate::specs::Exitance::sw_number))]
 fn check_sw(eta: f32, cosine: f32) -> Result<(), Refusal>
     ensures { number_of result ≡ Exitance.sw_number eta cosine }

@@ -77,7 +77,7 @@ impl<'a> Line<'a> {
         entry(self.word()?)
     }
 
-    // One entry or more, to the line's end.
+    // One entry or more, to the line's end: at most so many turns, since there is room for no more.
     pub fn entries<T: Entry>(mut self) -> Result<ArrayVec<T, MOST>, Malformed>
         ensures { option_map (λ all. all.items) (result_ok result) ≡ Spec.to_end (Spec.entry T.of_bits) MOST (Spec.left self.entry) }
     {
