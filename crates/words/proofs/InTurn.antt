@@ -3,74 +3,65 @@ use Rattle.std.proofs.Common.{◌≡◌, ℕ, suc, ◌+◌, ◌-◌, ◌<◌, Li
 use Rattle.std.proofs.lemmas.List.{take_more_set, append_assoc}
 use Rattle.words.specs.Line.{after, after_words, next, nexts, to_end}
 
+-- one turn fewer is left
+fewer : (n i : ℕ) → i < n → n - i ≡ suc (n - (i + 1))
+fewer n i inside = omega arith
+
+-- x stands behind xs, and the others follow it
+joined : {A : Type 0} (xs with_x : List A) (x : A) (o : Option (List A)) → with_x ≡ xs ++ x ∷ [] → option_map (λ ys. xs ++ ys) (option_map (λ ys. x ∷ ys) o) ≡ option_map (λ ys. with_x ++ ys) o
+joined xs with_x x None e = refl
+joined xs with_x x (Some ys) e = ap Some (sym (ap (λ l. l ++ ys) e ∙ append_assoc xs (x ∷ []) ys))
+
 pub one_more : {A : Type 0} → (f : List ℕ → Option A) (n i : ℕ) (all text rest : Option (List ℕ)) (xs : List A) (x : A) → i < n → length xs ≡ n
     → Some x ≡ next f text → rest ≡ after text
     → nexts f n all ≡ option_map (λ ys. take i xs ++ ys) (nexts f (n - i) text)
     → nexts f n all ≡ option_map (λ ys. take (i + 1) (set xs i x) ++ ys) (nexts f (n - (i + 1)) rest)
-one_more {A} f n i all text rest xs x inside len here moved so_far =
+one_more f n i all text rest xs x inside len here moved so_far =
     so_far
-    ∙ ap (λ k. option_map (λ ys. take i xs ++ ys) (nexts f k text)) left_over
+    ∙ ap (λ k. option_map (λ ys. take i xs ++ ys) (nexts f k text)) (fewer n i inside)
     ∙ ap (λ o. option_map (λ ys. take i xs ++ ys) (option_and_then (λ y. option_map (λ ys. y ∷ ys) (nexts f (n - (i + 1)) (after text))) o)) (sym here)
-    ∙ joined (nexts f (n - (i + 1)) (after text))
+    ∙ joined (take i xs) (take (i + 1) (set xs i x)) x (nexts f (n - (i + 1)) (after text)) (take_more_set xs i x (omega arith))
     ∙ ap (λ o. option_map (λ ys. take (i + 1) (set xs i x) ++ ys) (nexts f (n - (i + 1)) o)) (sym moved)
-  where
-    left_over : n - i ≡ suc (n - (i + 1))
-    left_over = omega arith
-
-    at_end : take (i + 1) (set xs i x) ≡ take i xs ++ x ∷ []
-    at_end = take_more_set xs i x (omega arith)
-
-    joined : (o : Option (List A)) → option_map (λ ys. take i xs ++ ys) (option_map (λ ys. x ∷ ys) o) ≡ option_map (λ ys. take (i + 1) (set xs i x) ++ ys) o
-    joined None = refl
-    joined (Some ys) = ap Some (sym (ap (λ l. l ++ ys) at_end ∙ append_assoc (take i xs) (x ∷ []) ys))
 
 -- and one word fewer is left
 pub one_word : (n i : ℕ) (all text rest : Option (List ℕ)) → i < n → rest ≡ after text
     → after_words n all ≡ after_words (n - i) text → after_words n all ≡ after_words (n - (i + 1)) rest
 one_word n i all text rest inside moved so_far =
-    so_far ∙ ap (λ k. after_words k text) left_over ∙ ap (after_words (n - (i + 1))) (sym moved)
-  where
-    left_over : n - i ≡ suc (n - (i + 1))
-    left_over = omega arith
+    so_far ∙ ap (λ k. after_words k text) (fewer n i inside) ∙ ap (after_words (n - (i + 1))) (sym moved)
 
 -- ---- to the line's end
 
-joined : {A : Type 0} (xs all : List A) (x : A) (o : Option (List A)) → all ≡ xs ++ x ∷ [] → option_map (λ ys. xs ++ ys) (option_map (λ ys. x ∷ ys) o) ≡ option_map (λ ys. all ++ ys) o
-joined xs all x None e = refl
-joined xs all x (Some ys) e = ap Some (sym (ap (λ l. l ++ ys) e ∙ append_assoc xs (x ∷ []) ys))
+-- what the word that is read now makes of the rest, by whether it is the last
+abbrev turn : {A : Type 0} → (List ℕ → Option A) → ℕ → Option (List ℕ) → List A → A → Bool → Option (List A)
+turn f k text xs x ended = option_map (λ ys. xs ++ ys) (cond ended (Some (x ∷ [])) (option_map (λ ys. x ∷ ys) (to_end f k (after text))))
 
-at_word : {A : Type 0} (f : List ℕ → Option A) (k : ℕ) (text : Option (List ℕ)) (x : A) → Some x ≡ next f text
-    → to_end f (suc k) text ≡ cond (is_none (after text)) (Some (x ∷ [])) (option_map (λ ys. x ∷ ys) (to_end f k (after text)))
-at_word f k text x here = ap (λ o. option_and_then (λ y. cond (is_none (after text)) (Some (y ∷ [])) (option_map (λ ys. y ∷ ys) (to_end f k (after text)))) o) (sym here)
+at_turn : {A : Type 0} (f : List ℕ → Option A) (n most : ℕ) (all text rest : Option (List ℕ)) (xs : List A) (x : A) (ended : Bool) → n < most
+    → Some x ≡ next f text → rest ≡ after text → is_none rest ≡ ended
+    → to_end f most all ≡ option_map (λ ys. xs ++ ys) (to_end f (most - n) text)
+    → to_end f most all ≡ turn f (most - (n + 1)) text xs x ended
+at_turn f n most all text rest xs x ended inside here moved e so_far =
+    so_far
+    ∙ ap (λ k. option_map (λ ys. xs ++ ys) (to_end f k text)) (fewer most n inside)
+    ∙ ap (λ o. option_map (λ ys. xs ++ ys) (option_and_then (λ y. cond (is_none (after text)) (Some (y ∷ [])) (option_map (λ ys. y ∷ ys) (to_end f (most - (n + 1)) (after text)))) o)) (sym here)
+    ∙ ap (turn f (most - (n + 1)) text xs x) (ap is_none (sym moved) ∙ e)
 
 -- the word after those so far is not the last
 pub further : {A : Type 0} (f : List ℕ → Option A) (n most : ℕ) (all text rest : Option (List ℕ)) (xs with_x : List A) (x : A) → n < most
     → Some x ≡ next f text → rest ≡ after text → is_none rest ≡ false → with_x ≡ xs ++ x ∷ []
     → to_end f most all ≡ option_map (λ ys. xs ++ ys) (to_end f (most - n) text)
     → to_end f most all ≡ option_map (λ ys. with_x ++ ys) (to_end f (most - (n + 1)) rest)
-further f n most all text rest xs with_x x inside here moved more set so_far =
-    so_far
-    ∙ ap (λ k. option_map (λ ys. xs ++ ys) (to_end f k text)) left_over
-    ∙ ap (option_map (λ ys. xs ++ ys)) (at_word f (most - (n + 1)) text x here ∙ ap (λ b. cond b (Some (x ∷ [])) (option_map (λ ys. x ∷ ys) (to_end f (most - (n + 1)) (after text)))) (ap is_none (sym moved) ∙ more))
-    ∙ joined xs with_x x (to_end f (most - (n + 1)) (after text)) set
+further f n most all text rest xs with_x x inside here moved more behind so_far =
+    at_turn f n most all text rest xs x false inside here moved more so_far
+    ∙ joined xs with_x x (to_end f (most - (n + 1)) (after text)) behind
     ∙ ap (λ t. option_map (λ ys. with_x ++ ys) (to_end f (most - (n + 1)) t)) (sym moved)
-  where
-    left_over : most - n ≡ suc (most - (n + 1))
-    left_over = omega arith
 
 -- or it is
 pub the_last : {A : Type 0} (f : List ℕ → Option A) (n most : ℕ) (all text rest : Option (List ℕ)) (xs with_x : List A) (x : A) → n < most
     → Some x ≡ next f text → rest ≡ after text → is_none rest ≡ true → with_x ≡ xs ++ x ∷ []
     → to_end f most all ≡ option_map (λ ys. xs ++ ys) (to_end f (most - n) text)
     → Some with_x ≡ to_end f most all
-the_last f n most all text rest xs with_x x inside here moved ended set so_far =
-    ap Some set
-    ∙ sym (so_far
-    ∙ ap (λ k. option_map (λ ys. xs ++ ys) (to_end f k text)) left_over
-    ∙ ap (option_map (λ ys. xs ++ ys)) (at_word f (most - (n + 1)) text x here ∙ ap (λ b. cond b (Some (x ∷ [])) (option_map (λ ys. x ∷ ys) (to_end f (most - (n + 1)) (after text)))) (ap is_none (sym moved) ∙ ended)))
-  where
-    left_over : most - n ≡ suc (most - (n + 1))
-    left_over = omega arith
+the_last f n most all text rest xs with_x x inside here moved ended behind so_far =
+    ap Some behind ∙ sym (at_turn f n most all text rest xs x true inside here moved ended so_far)
 
 -- whether anything is left
 pub nothing_left : (o : Option (Bor (List ℕ))) (b : Bool) → is_some o ≡ b → is_none (option_copied o) ≡ not b
