@@ -12,6 +12,7 @@ use Rattle.elementary.proofs.Lengths.{pow_lt_back, size_normal, two_pows}
 use Rattle.elementary.proofs.Magnitude.{mag_at}
 use Rattle.elementary.proofs.Values.{field, digits, subnormal_at, normal_at}
 use Rattle.elementary.proofs.Quotients.{whole64_at}
+use Rattle.elementary.proofs.Signs.{neg_at}
 
 -- from 2 ^ -126 up to 1
 pub record Inside (x : Float) : Type 0 where
@@ -69,13 +70,6 @@ pub record Parts (x m e : Float) : Type 0 where
   pub significand_is : HasValue m false a (2 ^ k)
   pub exponent_is : HasValue e true (149 - k) 1
 
-negative_at : (x : Float) (a c : ℕ) → HasValue x false a c → HasValue (neg x) true a c
-unfolding neg
-negative_at nan a c v = absurd v
-negative_at (inf s) a c v = absurd v
-negative_at (fin true m e) a c v = absurd (true≢false v.0)
-negative_at (fin false m e) a c v = (refl, v.1)
-
 -- of q * 2 ^ j units, with a q of 24 digits
 parts_of : (x : Float) (q j : ℕ) → 2 ^ 23 ≤ q → q < 2 ^ 24 → HasValue x false (q * 2 ^ j) (2 ^ 149) → Parts x (significand (q * 2 ^ j)) (exponent (q * 2 ^ j))
 parts_of x q j l h v =
@@ -95,7 +89,7 @@ parts_of x q j l h v =
           subst (λ (m : ℕ). HasValue (round binary64 false (q * 2 ^ j) (2 ^ m)) false (q * 2 ^ j) (2 ^ (23 + j))) k
           (round_exact binary64 false (q * 2 ^ j) (2 ^ (23 + j)) q 1051 (pow_pos (23 + j)) (lt_of_lt_of_le h (lit≤ tt)) (lt_of_lt_of_le (shl_lt 24 1051 h) (lit≤ tt))
           (two_pows q j 1074 ∙ ap (λ (m : ℕ). q * 2 ^ m) same ∙ sym (two_pows q 1051 (23 + j))));
-      exponent_is = subst (λ (m : ℕ). HasValue (neg (whole64 m)) true (149 - (23 + j)) 1) (sym n) (negative_at (whole64 (149 - (23 + j))) (149 - (23 + j)) 1 (whole64_at (149 - (23 + j)) w));
+      exponent_is = subst (λ (m : ℕ). HasValue (neg (whole64 m)) true (149 - (23 + j)) 1) (sym n) (neg_at (whole64 (149 - (23 + j))) false (149 - (23 + j)) 1 (whole64_at (149 - (23 + j)) w));
     }
 
 module _ (x : Float) (F : T (fits binary32 x)) (i : Inside x) where

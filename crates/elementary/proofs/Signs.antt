@@ -1,7 +1,8 @@
--- What the tests x < 0 and x == 0 say of x: which of the logic's values it can be. And a test of its size by two tests without (`abs_below`). Assumes nothing.
-use Rattle.std.proofs.Common.{◌≡◌, ℕ, zero, suc, ◌+◌, ◌*◌, ◌<◌, ◌≤◌, Bool, true, false, cond, ◌&&◌, eqb, ltb, ℤ, refl, true≢false, zero-lt-suc, mul-pos, arith, ltb-false, ltb-true, lt-ltb, eq-eqb, eqb-true}
-use mathlib.Core.Bool.{false≢true}
+-- What the tests x < 0 and x == 0 say of x: which of the logic's values it can be. The negative of a value (`neg_at`), and a test of its size by two tests without (`abs_below`). Assumes nothing.
+use Rattle.std.proofs.Common.{◌≡◌, ℕ, zero, suc, ◌+◌, ◌*◌, ◌<◌, ◌≤◌, Bool, true, false, cond, ◌&&◌, eqb, ltb, ℤ, refl, true≢false, zero-lt-suc, mul-pos, arith, ap, ltb-false, ltb-true, lt-ltb, eq-eqb, eqb-true}
+use mathlib.Core.Bool.{false≢true, not}
 use lib.Ieee.{Float, nan, inf, fin, up, down, neg, lt, eq, of_bits}
+use lib.Ieee.Exact.{HasValue}
 use lib.Ieee.Fits.{up_pos, down_pos}
 use Rattle.elementary.specs.Notation.{lit}
 use Rattle.std.specs.Float as Float
@@ -26,6 +27,13 @@ unfolding Float.float_with_sign abs
 abs_is nan = refl
 abs_is (inf s) = refl
 abs_is (fin s m e) = refl
+
+-- the negative: the same size, and the other sign
+pub neg_at : (x : Float) (s : Bool) (a c : ℕ) → HasValue x s a c → HasValue (neg x) (not s) a c
+unfolding neg
+neg_at nan s a c v = absurd v
+neg_at (inf t) s a c v = absurd v
+neg_at (fin t m e) s a c v = (ap not v.0, v.1)
 
 some : (m : ℕ) (e : ℤ) → 0 < suc m * up e
 some m e = mul-pos (zero-lt-suc m) (up_pos e)

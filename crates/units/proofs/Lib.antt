@@ -1,5 +1,6 @@
 -- The laws that other crates cite.
 pub mod Near
+pub mod Sizes
 pub mod Rounded
 pub mod Held
 pub mod Bounds

@@ -1,14 +1,14 @@
--- What rounding to 24 digits does, over natural numbers: `near n c` is the fraction n / c of units, rounded.
+-- What rounding to p digits does, over natural numbers: `near_to p n c` is the fraction n / c, rounded; and to the 24 digits of binary32, `near n c`, where n / c is a number of units.
 -- It keeps the order (`near_mono`): either two fractions drop as many digits, and then the kept numbers are in order, or a power of two lies between the results.
--- What has 24 digits and zeros after them loses only zeros (`near_fixes`). A whole number n moves by at most half of the last digit kept, which is n / 2 ^ 24 at most (`near_error`).
+-- What has p digits and zeros after them loses only zeros (`near_fixes`). A fraction below 2 ^ (p + k + 1) moves by at most 2 ^ k (`near_to_off`), and a whole number n by at most half of the last digit kept, which is n / 2 ^ 24 at most (`near_error`).
 -- Nothing here is about floats. Assumes nothing.
 use mathlib.Core.Path.{◌≡◌, refl, sym, ap, ◌∙◌, subst}
 use mathlib.Core.Bool.{not}
 use mathlib.Core.Logic.{inl, inr}
 use Prim.Native.Nat.{ℕ, zero, suc, ◌+◌, ◌-◌, ◌*◌, ◌/◌, ◌%◌, ◌^◌, ◌≤◌, ◌<◌, zero-le, compare, Ordering}
-use native.Mathlib.Nat.{le_trans, le_of_eq, le_antisymm, lt_of_le_of_lt, eq-or-lt_of_le, zero-mul, mul-one, one-mul, mul_assoc, mul-le-mul_right, mul-pos, le-div_iff_mul-le, div-div-eq-div-mul, div-one, mod-one, mod-lt, div-add-mod'}
+use native.Mathlib.Nat.{le_trans, le_of_eq, le_antisymm, lt_of_le_of_lt, eq-or-lt_of_le, zero-mul, mul-one, one-mul, mul_assoc, mul-le-mul_right, mul-le-mul_left, mul-pos, le-div_iff_mul-le, div-lt_iff_lt-mul, div-div-eq-div-mul, div-one, mod-one, mod-lt, div-add-mod'}
 use native.Mathlib.Omega.{arith}
-use lib.Dec.{T, is_le, compare_is_eq, eqb, leb→le, nleb→lt, eqb→eq, eqb_refl}
+use lib.Dec.{T, lit<, is_le, compare_is_eq, eqb, leb→le, nleb→lt, eqb→eq, eqb_refl}
 use lib.Arith.{lt_of_le-ne}
 use lib.Pow.{pow-add, pow_pos, pow_mono, shl_lt}
 use lib.Ieee.{size, nearest}
@@ -17,8 +17,8 @@ use lib.Ieee.Fits.{kept-lt, nearest-le}
 use lib.Ieee.Nearest.{closest, closest_mono, closest_same, nearest-ge, div_mono}
 use lib.Ieee.Order.{drop, kept}
 
-unfoldable pub near : ℕ → ℕ → ℕ
-near n c = kept 24 n c * 2 ^ drop 24 n c
+unfoldable pub near_to : ℕ → ℕ → ℕ → ℕ
+near_to p n c = kept p n c * 2 ^ drop p n c
 
 -- ---- the order, with the text of `lib.Ieee.Order`, which keeps this law to itself
 
@@ -55,8 +55,9 @@ fewer x y p h = omega arith
 room : (p j k : ℕ) → 0 < p → j < k → p + j ≤ p - 1 + k
 room p j k P h = omega arith
 
-grid_mono : (p a b c d : ℕ) → 0 < p → 0 < b → 0 < d → a * d ≤ c * b → kept p a b * 2 ^ drop p a b ≤ kept p c d * 2 ^ drop p c d
-grid_mono p a b c d P B D h =
+pub near_to_mono : (p a b c d : ℕ) → 0 < p → 0 < b → 0 < d → a * d ≤ c * b → near_to p a b ≤ near_to p c d
+unfolding near_to
+near_to_mono p a b c d P B D h =
     let j = drop p a b in
     let k = drop p c d in
     elim (eq-or-lt_of_le (fewer (size (a / b)) (size (c / d)) p (size_mono (a / b) (c / d) (div_mono a b c d B D h)))) [
@@ -68,15 +69,11 @@ grid_mono p a b c d P B D h =
           (le_trans (le_of_eq (pow-add 2 (p - 1) k)) (mul-le-mul_right (2 ^ k) (kept_ge p c d P (lt_of_le_of_lt zero-le l))))))
     ]
 
-pub near_mono : (a b c d : ℕ) → 0 < b → 0 < d → a * d ≤ c * b → near a b ≤ near c d
-unfolding near
-near_mono a b c d B D h = grid_mono 24 a b c d (omega arith) B D h
-
 -- equal fractions round alike
-pub near_same : (a b c d : ℕ) → 0 < b → 0 < d → a * d ≡ c * b → near a b ≡ near c d
-near_same a b c d B D e = le_antisymm (near_mono a b c d B D (le_of_eq e)) (near_mono c d a b D B (le_of_eq (sym e)))
+pub near_to_same : (p a b c d : ℕ) → 0 < p → 0 < b → 0 < d → a * d ≡ c * b → near_to p a b ≡ near_to p c d
+near_to_same p a b c d P B D e = le_antisymm (near_to_mono p a b c d P B D (le_of_eq e)) (near_to_mono p c d a b P D B (le_of_eq (sym e)))
 
--- ---- what 24 digits hold
+-- ---- what p digits hold
 
 closest_whole : (r : ℕ) → closest r 1 ≡ r
 closest_whole r = simp (div-one, mod-one)
@@ -84,23 +81,19 @@ closest_whole r = simp (div-one, mod-one)
 spare : (z p l : ℕ) → z ≤ p + l → z - p ≤ l
 spare z p l h = omega arith
 
-fixes : (n q j : ℕ) → q < 2 ^ 24 → n ≡ q * 2 ^ j → near n 1 ≡ n
-unfolding near
-fixes n q j small e =
+fixes : (p n q j : ℕ) → q < 2 ^ p → n ≡ q * 2 ^ j → near_to p n 1 ≡ n
+unfolding near_to
+fixes p n q j small e =
     let w : n / 1 ≡ n = div-one n in
-    let k = drop 24 n 1 in
-    let l : k ≤ j = spare (size (n / 1)) 24 j (size-le (n / 1) (24 + j) (subst (λ (x : ℕ). x < 2 ^ (24 + j)) (sym (w ∙ e)) (shl_lt 24 j small))) in
+    let k = drop p n 1 in
+    let l : k ≤ j = spare (size (n / 1)) p j (size-le (n / 1) (p + j) (subst (λ (x : ℕ). x < 2 ^ (p + j)) (sym (w ∙ e)) (shl_lt p j small))) in
     let r = q * 2 ^ (j - k) in
     let f : r * 2 ^ k ≡ n = mul_assoc q (2 ^ (j - k)) (2 ^ k) ∙ ap (λ (x : ℕ). q * x) (sym (pow-add 2 (j - k) k) ∙ ap (λ (x : ℕ). 2 ^ x) (back j k l)) ∙ sym e in
     let c : closest n (1 * 2 ^ k) ≡ r = closest_same n (1 * 2 ^ k) r 1 (mul-pos (pow_pos 0) (pow_pos k)) (pow_pos 0) (mul-one n ∙ sym f ∙ ap (λ (x : ℕ). r * x) (sym (one-mul (2 ^ k)))) ∙ closest_whole r in
     ap (λ (x : ℕ). x * 2 ^ k) c ∙ f
 
--- q * 2 ^ j units, with a q of at most 24 digits
-pub near_fixes : (q j : ℕ) → q < 2 ^ 24 → near (q * 2 ^ j) 1 ≡ q * 2 ^ j
-near_fixes q j small = fixes (q * 2 ^ j) q j small refl
-
-pub near_zero : (c : ℕ) → 0 < c → near 0 c ≡ 0
-near_zero c C = near_same 0 c 0 1 C (pow_pos 0) (sym (zero-mul c)) ∙ near_fixes 0 0 (pow_pos 24)
+pub near_to_fixes : (p q j : ℕ) → q < 2 ^ p → near_to p (q * 2 ^ j) 1 ≡ q * 2 ^ j
+near_to_fixes p q j small = fixes p (q * 2 ^ j) q j small refl
 
 -- ---- the error
 
@@ -134,6 +127,49 @@ half n u q r Ordering.gt e l c = (omega arith, omega arith)
 closest_half : (n u : ℕ) → 0 < u → Half n u (closest n u)
 closest_half n u U = half n u (n / u) (n % u) (compare (n % u * 2) u) (div-add-mod' n u) (mod-lt n U) (cmp (n % u * 2) u)
 
+-- z / 1 is n / c, up to e
+abbrev pub OffBy : ℕ → ℕ → ℕ → ℕ → Type 0
+OffBy z n c e = (z * c ≤ n + e * c) × (n ≤ z * c + e * c)
+
+-- of a fraction below 2 ^ (p + k + 1), by at most 2 ^ k
+pub near_to_off : (p k n c : ℕ) → 0 < c → n < 2 ^ (p + suc k) * c → OffBy (near_to p n c) n c (2 ^ k)
+unfolding near_to
+near_to_off p k n c C h =
+    let l : drop p n c ≤ suc k = spare (size (n / c)) p (suc k) (size-le (n / c) (p + suc k) ((div-lt_iff_lt-mul C).1 h)) in
+    go (drop p n c) (pow_mono l)
+  where
+    go : (j : ℕ) → 2 ^ j ≤ 2 ^ suc k → OffBy (closest n (c * 2 ^ j) * 2 ^ j) n c (2 ^ k)
+    go j l =
+        let a = closest_half n (c * 2 ^ j) (mul-pos C (pow_pos j)) in
+        let b : c * 2 ^ j ≤ c * 2 ^ suc k = mul-le-mul_left c l in
+        let d : c * 2 ^ suc k ≡ c * (2 * 2 ^ k) = ap (λ (x : ℕ). c * x) twice in
+        at (closest n (c * 2 ^ j)) (2 ^ j) (2 ^ k) a.0 a.1 (le_trans b (le_of_eq d))
+      where
+        twice : 2 ^ suc k ≡ 2 * 2 ^ k
+        twice = omega arith
+
+        at : (v u e : ℕ) → v * (c * u) * 2 ≤ n * 2 + c * u → n * 2 ≤ v * (c * u) * 2 + c * u → c * u ≤ c * (2 * e) → OffBy (v * u) n c e
+        at v u e x y z = (omega arith, omega arith)
+
+-- ---- 24 digits
+
+abbrev pub near : ℕ → ℕ → ℕ
+near n c = near_to 24 n c
+
+pub near_mono : (a b c d : ℕ) → 0 < b → 0 < d → a * d ≤ c * b → near a b ≤ near c d
+near_mono a b c d = near_to_mono 24 a b c d (lit< tt)
+
+-- equal fractions round alike
+pub near_same : (a b c d : ℕ) → 0 < b → 0 < d → a * d ≡ c * b → near a b ≡ near c d
+near_same a b c d = near_to_same 24 a b c d (lit< tt)
+
+-- q * 2 ^ j units, with a q of at most 24 digits
+pub near_fixes : (q j : ℕ) → q < 2 ^ 24 → near (q * 2 ^ j) 1 ≡ q * 2 ^ j
+near_fixes = near_to_fixes 24
+
+pub near_zero : (c : ℕ) → 0 < c → near 0 c ≡ 0
+near_zero c C = near_same 0 c 0 1 C (pow_pos 0) (sym (zero-mul c)) ∙ near_fixes 0 0 (pow_pos 24)
+
 -- v is n, up to n / 2 ^ 24
 abbrev pub Error : ℕ → ℕ → Type 0
 Error n v = (v * 16777216 ≤ n * 16777216 + n) × (n * 16777216 ≤ v * 16777216 + n)
@@ -145,7 +181,7 @@ dropped n k v h l = let e : 1 * 2 ^ k ≡ 2 ^ k = one-mul (2 ^ k) in go (2 ^ k) 
     go u w e h l = let f : v * w ≡ v * u = ap (λ (x : ℕ). v * x) e in (omega arith, omega arith)
 
 pub near_error : (n : ℕ) → Error n (near n 1)
-unfolding near
+unfolding near_to
 near_error n = go (drop 24 n 1) refl
   where
     go : (k : ℕ) → size (n / 1) - 24 ≡ k → Error n (closest n (1 * 2 ^ k) * 2 ^ k)

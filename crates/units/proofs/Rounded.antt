@@ -12,13 +12,14 @@ use lib.IntN.{ℤ}
 use lib.Ieee.{Float, nan, inf, fin, binary32, up, down, unlike, odd, units, round, sum, add, mul, div, fits}
 use lib.Ieee.Bits.{cond_no}
 use lib.Ieee.Fits.{down_pos, round_is}
-use lib.Ieee.Exact.{HasValue, units_val}
+use lib.Ieee.Exact.{HasValue}
 use lib.Ieee.Order.{drop, kept}
 use lib.Ieee.Scale.{finite}
 use Rattle.elementary.specs.Units.{mag}
 use Rattle.elementary.proofs.Magnitude.{mag_at, mag_exact}
 use Rattle.units.specs.Units.{Number, one, plus, minus}
-use Rattle.units.proofs.Near.{near, near_same, near_zero}
+use Rattle.units.proofs.Near.{near, near_to, near_same, near_zero}
+use Rattle.units.proofs.Sizes.{unit, limit, round_units}
 
 -- from 2 ^ 128 on a value is an infinity: that number in units
 unfoldable pub cap : ℕ
@@ -27,9 +28,8 @@ cap = 2 ^ 277
 -- ---- what `round` makes
 
 round_value : (s : Bool) (a c : ℕ) → near (a * one) c < cap → HasValue (round binary32 s a c) s (near (a * one) c) one
-unfolding near one cap
-round_value s a c h =
-    subst (λ (z : Float). HasValue z s (near (a * one) c) one) (sym (round_is binary32 s a c)) (units_val binary32 s (kept 24 (a * one) c) (drop 24 (a * one) c) h)
+unfolding one cap unit limit
+round_value = round_units binary32
 
 units_under : (s : Bool) (q k : ℕ) → T (finite (units binary32 s q k)) → q * 2 ^ k < cap
 unfolding units cap
@@ -40,7 +40,7 @@ units_under s q k = go (ltb (q * 2 ^ k) cap) (ltb→lt (q * 2 ^ k) cap)
     go false h t = absurd t
 
 round_under : (s : Bool) (a c : ℕ) → T (finite (round binary32 s a c)) → near (a * one) c < cap
-unfolding near one
+unfolding near_to one
 round_under s a c t = units_under s (kept 24 (a * one) c) (drop 24 (a * one) c) (subst (λ (z : Float). T (finite z)) (round_is binary32 s a c) t)
 
 -- ---- the exact value, rounded

@@ -32,7 +32,7 @@ module _ (a q length : ℕ) (N : Normalised a q length) where
 
   significand_is : whole64 q ⧄ lit64 0x4160_0000_0000_0000 ≡ significand a
   significand_is =
-      div_at binary64 (whole64 q) (lit64 0x4160_0000_0000_0000) q 1 (2 ^ 23) 1 (pow_pos 0) (pow_pos 23) (pow_pos 0) (whole64_at q (le_trans (le_of_lt N.high) (lit≤ tt))) power
+      div_at binary64 (whole64 q) (lit64 0x4160_0000_0000_0000) false q 1 (2 ^ 23) 1 (pow_pos 0) (pow_pos 23) (pow_pos 0) (whole64_at q (le_trans (le_of_lt N.high) (lit≤ tt))) power
       ∙ round_same binary64 false (q * 1) (2 ^ 23 * 1) a (2 ^ (size a - 1)) (pow_pos 23) (pow_pos (size a - 1)) same
 
   exponent_is : neg (whole64 (150 - length)) ≡ exponent a
