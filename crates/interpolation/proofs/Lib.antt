@@ -5,6 +5,7 @@ pub mod Bisection
 -- check 6, and accepted node lists
 pub mod Finite
 pub mod Accepted
+pub mod Rising
 pub mod Counting
 -- eight nodes at once
 pub mod Lanes
