@@ -2,7 +2,7 @@
 pub mod Refusals
 pub mod Results
 pub mod Literals
-pub mod NodeLists
+pub mod NodesPass
 pub mod Parts
 pub mod RowLengths
 pub mod RowLists

@@ -14,13 +14,15 @@ use Rattle.elementary.proofs.Filled.{length_list_of, get_or_list_of}
 use Rattle.answers.proofs.Refusals.{keeps}
 use Rattle.table.specs.Parameters.{Lists, lengths_of}
 use Rattle.table.specs.Checks.{check5, start_number, build_number}
-use Rattle.table.specs.Nodes.{rho_sample, rho_samples, radius_sample, radius_samples}
+use Rattle.starting_nodes.specs.Nodes.{«1·2», eight, rho_sample, radius_sample}
+use Rattle.table.specs.Nodes.{rho_samples, radius_samples}
 use Rattle.table.specs.TableRow.{TableRow, row_at, built_row, empty_row, replaced}
 use Rattle.table.specs.Starting.{started, start}
 use Rattle.table.specs.Building.{built, build}
 use Rattle.table.specs.Sets.{Rows, no_rows, adding, table_with, table_of}
 use Rattle.table.specs.Laws.{Accepted, Full, TableLaws}
 use Rattle.table.specs.declared.parameters.Record.{Record}
+use Rattle.table.proofs.NodesPass.{nodes_pass, never_6, nodes_begin, albedo_range}
 use Rattle.table.proofs.Refusals.{Fits, build_accepted, lengths_fit}
 use Rattle.table.proofs.Parts.{length_put, rows_same, row_within}
 use Rattle.table.proofs.RowLengths.{length_profile, length_cdf_row}
@@ -111,11 +113,11 @@ rows_decide r s t p q rho radii h =
 
 radii_long : (r : Record) → length (radius_samples r) ≡ r.m
 unfolding radius_samples
-radii_long r = length_list_of r.m radius_sample
+radii_long r = length_list_of r.m (radius_sample «1·2»)
 
 rho_long : (r : Record) → length (rho_samples r) ≡ r.n
 unfolding rho_samples
-rho_long r = length_list_of r.n (rho_sample r.n)
+rho_long r = length_list_of r.n (rho_sample eight r.n)
 
 chosen_full : (r : Record) (b : Bool) (x : TableRow) → Full r x → Full r (cond b x (empty_row r))
 unfolding empty_row
@@ -241,6 +243,10 @@ table_laws = record {
   row_of_table = row_of_table;
   started_is = started_is;
   built_on = built_on;
+  nodes_pass = nodes_pass;
+  never_6 = never_6;
+  nodes_begin = nodes_begin;
+  albedo_range = albedo_range;
   start_refused = start_refused;
   build_refused = build_refused;
 }

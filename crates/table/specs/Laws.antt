@@ -1,13 +1,20 @@
 -- The laws of a table: what holds of the definitions, beyond what they say. `TableLaws`, at the end, is the contract of a function, `laws`; what stands before it are its words.
-use Rattle.std.specs.Prelude.{ℕ, ◌<◌, ◌≡◌, cond, eqb, length}
+use Rattle.std.specs.Prelude.{ℕ, ◌<◌, ◌≡◌, true, cond, eqb, T, length, get_or}
+use Rattle.std.specs.Float.{nan}
+use Rattle.std.specs.Float.Ieee.{le}
+use Rattle.elementary.specs.Notation.{lit}
+use Rattle.interpolation.specs.Nodes.{nodes_ok}
+use Rattle.scattering.specs.Literals.{two}
+use Rattle.starting_nodes.specs.Nodes.{«0·0025»}
 use Rattle.table.specs.Parameters.{Lists, lengths_of}
-use Rattle.table.specs.Checks.{check5, start_number, build_number}
+use Rattle.table.specs.Checks.{check5, record_number, start_number, table_number, build_number}
 use Rattle.table.specs.Nodes.{rho_samples, radius_samples}
 use Rattle.table.specs.TableRow.{TableRow, row_at, built_row, empty_row, replaced}
 use Rattle.table.specs.Starting.{started, start}
 use Rattle.table.specs.Building.{built, build}
 use Rattle.table.specs.Sets.{Rows, no_rows, adding, table_with, table_of}
 use Rattle.table.specs.declared.parameters.Record.{Record}
+use Rattle.table.specs.declared.parameters.Lengths.{Lengths}
 
 -- no check of building refuses
 abbrev pub Accepted : Record → ℕ → Lists → Type 0
@@ -46,6 +53,13 @@ pub record TableLaws : Type 0 where
   pub row_of_table : (r : Record) (S : Rows) (k : ℕ) → k < r.n → row_at r (table_of r S) k ≡ cond (S k) (built_row r k (rho_samples r) (radius_samples r)) (empty_row r)
   pub started_is : (r : Record) → started r ≡ table_of r no_rows
   pub built_on : (r : Record) (S : Rows) (i : ℕ) → i < r.n → built r i (table_of r S) ≡ table_of r (adding i S)
+  -- the nodes of a record that checks 1 to 4 accept pass check 6, so on a table that has them it refuses nothing
+  pub nodes_pass : (r : Record) → record_number r ≡ 0 → (nodes_ok (rho_samples r) ≡ true) × (nodes_ok (radius_samples r) ≡ true)
+  pub never_6 : (r : Record) (l : Lengths) → table_number r (rho_samples r) (radius_samples r) l ≡ start_number r l
+  -- its first albedo is +0, and each is from 0 to 2; its first two radii are +0 and 0.0025
+  pub nodes_begin : (r : Record) → record_number r ≡ 0
+      → (get_or (rho_samples r) 0 nan ≡ lit 0) × (get_or (radius_samples r) 0 nan ≡ lit 0) × (get_or (radius_samples r) 1 nan ≡ «0·0025»)
+  pub albedo_range : (r : Record) → record_number r ≡ 0 → (i : ℕ) → i < r.n → let rho = get_or (rho_samples r) i nan in T (le (lit 0) rho) × T (le rho two)
   -- a refused call leaves every list as it was
   pub start_refused : (r : Record) (t : Lists) → 0 < start_number r (lengths_of t) → (start r t).lists ≡ t
   pub build_refused : (r : Record) (i : ℕ) (t : Lists) → 0 < build_number r i t.rho_samples t.radius_samples (lengths_of t) → (build r i t).lists ≡ t

@@ -1,5 +1,7 @@
 -- What document 01's calls on a table are about ("Starting a table"): the record, the six lists that a caller lends, and what a call does.
-use Rattle.std.specs.Prelude.{ℕ, ◌≡◌, ◌*◌, List, [], length, Result, Float}
+use Rattle.std.specs.Prelude.{ℕ, ◌≡◌, ◌*◌, List, [], length, T, Result, Float}
+use Rattle.std.specs.Float.{binary32}
+use Rattle.std.specs.Float.Ieee.{fits}
 use Rattle.answers.specs.Answer.{Answer, value}
 use Rattle.answers.specs.Refusal.{told}
 use Rattle.answers.specs.declared.refusal.Refusal.{Refusal}
@@ -14,6 +16,11 @@ use Rattle.table.specs.declared.lists.Lent.{Lent}
 
 abbrev pub record_of : ℕ → ℕ → Float → Float → Record
 record_of n m g eta = record { n = n; m = m; g = g; eta = eta }
+
+-- its floats are values of binary32, as those of a record in the code are
+pub record RecordHolds (r : Record) : Type 0 where
+  pub g : T (fits binary32 r.g)
+  pub eta : T (fits binary32 r.eta)
 
 -- as many rows and radii as there can be
 abbrev pub largest : Float → Float → Record

@@ -7,7 +7,6 @@ pub mod building;
 pub mod checks;
 pub mod laws;
 pub mod lists;
-pub mod nodes;
 pub mod parameters;
 pub mod row;
 pub mod starting;

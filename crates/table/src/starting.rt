@@ -5,9 +5,9 @@ ghost use Rattle.table.specs.Starting as Starting;
 
 use crate::checks::check_start;
 use crate::lists::Lent;
-use crate::nodes::{radius_nodes, rho_nodes};
 use crate::parameters::Record;
 use answers::Refusal;
+use starting_nodes::{radius_nodes, rho_nodes};
 
 // Starts a table in the six lists, whatever they hold: the nodes of the record, and no row built.
 // Refusals: 1 to 5.

@@ -20,7 +20,8 @@ use Rattle.scattering.specs.Phase.{denom, phase_hg}
 use Rattle.scattering.specs.Fresnel.{swapped, complement, snell, sin_theta_i, sin_theta_t, cos_theta_t, reflectance_at, reflectance, reflected_at, reflected, fr_dielectric}
 use Rattle.scattering.specs.Single.{ss_term, ss_addend, beam_diffusion_ss}
 use Rattle.scattering.specs.Multiple.{dipole, ms_term, ms_addend, beam_diffusion_ms}
-use Rattle.table.specs.Nodes.{«0·0025», radius_sample, radius_samples, rho_sample, rho_samples}
+use Rattle.starting_nodes.specs.Nodes.{«0·0025», radius_sample, rho_sample}
+use Rattle.table.specs.Nodes.{radius_samples, rho_samples}
 use Rattle.table.specs.Parameters.{Lists}
 use Rattle.table.specs.Row.{profile_entry, profile_row, cdf_row, effective_albedo}
 use Rattle.table.specs.TableRow.{built_row, empty_row}
