@@ -56,7 +56,7 @@ module _ (laws : QueryLaws) (r : Record) where
   -- ---- a query on a set's table
 
   -- a needed row is marked there exactly if the set has it, so 11 is given exactly if the set has not one of them
-  missing_on : (S : Rows) (q : Query) → order_number r (table_of r S) q ≡ 0
+  pub missing_on : (S : Rows) (q : Query) → order_number r (table_of r S) q ≡ 0
       → (ask r (table_of r S) q ≡ refusal 11) ↔ ((k : ℕ) × (among (needed_rows r (table_of r S) q) k ≡ true) × (S k ≡ false))
   unfolding ask
   missing_on S q o =

@@ -5,4 +5,5 @@ pub mod StartingNodes
 pub mod Asking
 pub mod Agreeing
 pub mod JointClaim
+pub mod Progressing
 pub mod ByStart

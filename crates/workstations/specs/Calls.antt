@@ -1,13 +1,16 @@
 -- What a call does, and what a list of calls does: each is given the start's record, and the six lists as the call before left them (document 01, "Drawing a radius").
 use Rattle.std.specs.Prelude.{ℕ, List, [], ◌∷◌, Result, Float}
 use Rattle.answers.specs.Answer.{Answer, value}
+use Rattle.answers.specs.Checks.{first_of}
 use Rattle.answers.specs.Refusal.{told as told_by}
 use Rattle.answers.specs.declared.refusal.Refusal.{Refusal}
+use Rattle.interpolation.specs.Checks.{check9, check10}
 use Rattle.scattering.specs.Exitance.{spectrum_value}
 use Rattle.scattering.specs.declared.spectrum.RGBEnum.{RGBEnum}
 use Rattle.table.specs.Parameters.{Lists, Effect, effect, done}
 use Rattle.table.specs.Building.{build}
 use Rattle.table.specs.declared.parameters.Record.{Record}
+use Rattle.bssrdf.specs.Checks.{check8}
 use Rattle.bssrdf.specs.Question.{Question, posed}
 use Rattle.bssrdf.specs.Radiance.{sr_question}
 use Rattle.bssrdf.specs.Density.{pdf_question}
@@ -41,6 +44,12 @@ needed_rows r t q = (question r q t).rows
 
 abbrev pub order_number : Record → Lists → Query → ℕ
 order_number r t q = (question r q t).order
+
+-- the number that the checks of its arguments give, whatever the table: 8, and of a draw 8 to 10
+unfoldable pub argument_number : Record → Query → ℕ
+argument_number r (Sr c x) = check8 c
+argument_number r (PdfSr ch c x) = check8 c
+argument_number r (SampleSr ch c u allowance) = first_of (check8 c ∷ check9 u ∷ check10 allowance ∷ [])
 
 unfoldable pub ask : Record → Lists → Query → Answer
 ask r t q = posed t.marks (question r q t)

@@ -1,16 +1,17 @@
--- The joint claim (demand 3): statements over whole lists of calls from any two workstations. `Joint`, at the end, is the contract of a function, `joint`; what stands before it are its words.
+-- The joint claim (demand 3): statements over whole lists of calls from any two workstations. `Joint` is the contract of a function, `joint`; what stands before it are its words.
+-- After it, in the same words: that no accepted start is in vain (`Progress`, the contract of `progress`).
 -- An equation of floats or lists means the same bits, any NaN equal to any NaN (`Notation` of `elementary`).
-use Rattle.std.specs.Prelude.{ℕ, ◌≤◌, ◌≡◌, ◌↔◌, true, false, List, ◌∷◌, Float}
+use Rattle.std.specs.Prelude.{ℕ, ◌≤◌, ◌<◌, ◌≡◌, ◌↔◌, true, false, cond, List, ◌∷◌, ltb, Float}
 use Rattle.answers.specs.Answer.{Answer, refusal}
 use Rattle.interpolation.specs.Checks.{check10}
 use Rattle.scattering.specs.declared.spectrum.RGBEnum.{RGBEnum}
-use Rattle.table.specs.Parameters.{Lists, Effect, done}
+use Rattle.table.specs.Parameters.{RecordHolds, Lists, Effect, done}
 use Rattle.table.specs.Starting.{start}
 use Rattle.table.specs.Sets.{Rows, table_of}
 use Rattle.table.specs.declared.parameters.Record.{Record}
 use Rattle.bssrdf.specs.Needed.{among}
 use Rattle.bssrdf.specs.declared.coefficients.Coefficients.{Coefficients}
-use Rattle.workstations.specs.Calls.{Query, SampleSr, Call, Ask, needed_rows, order_number, ask, step, Run, run}
+use Rattle.workstations.specs.Calls.{Query, SampleSr, Call, Build, Ask, needed_rows, order_number, argument_number, ask, step, Run, run}
 use Rattle.workstations.specs.Tally.{Fed, StartOf, rows_built, tallied}
 
 -- ---- a workstation with the record r: an opening, and any list of calls
@@ -94,3 +95,23 @@ pub record Joint : Type 0 where
   pub same_tables : SameTables
   pub row_missing : RowMissing
   pub keeps : Keeps
+
+-- ---- no accepted start is in vain: what can be done with a table that was opened, whatever calls came before
+
+-- (f) a build is refused exactly if its row number is N or more, and then with 7
+abbrev pub Builds : Type 0
+Builds = (r : Record) → RecordHolds r → (w : Workstation r) (i : ℕ) → (step r (table_after r w) (Build i)).answer ≡ cond (ltb i r.n) done (refusal 7)
+
+-- (g) the number that a query gets before 11 is that of its arguments alone
+abbrev pub ByArguments : Type 0
+ByArguments = (r : Record) → RecordHolds r → (w : Workstation r) (q : Query) → order_number r (table_after r w) q ≡ argument_number r q
+
+-- (h) after every row has been built no query in order gets 11
+abbrev pub NoneMissing : Type 0
+NoneMissing = (r : Record) → RecordHolds r → (w : Workstation r) → ((k : ℕ) → k < r.n → rows_of r w k ≡ true)
+    → (q : Query) → order_number r (table_after r w) q ≡ 0 → (step r (table_after r w) (Ask q)).answer ≡ refusal 11 → ⊥
+
+pub record Progress : Type 0 where
+  pub builds : Builds
+  pub by_arguments : ByArguments
+  pub none_missing : NoneMissing
