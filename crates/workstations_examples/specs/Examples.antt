@@ -1,5 +1,5 @@
 -- Worked examples: lists of calls with their answers and the rows that they build, so the joint claim is about something. `Examples`, at the end, is the contract of a function, `examples`; what stands before it are its words.
-use Rattle.std.specs.Prelude.{ℕ, ◌≡◌, List, [], ◌∷◌, ◌++◌, eqb, Float}
+use Rattle.std.specs.Prelude.{ℕ, ◌<◌, ◌≡◌, true, List, [], ◌∷◌, ◌++◌, eqb, Float}
 use Rattle.std.specs.Float.Ieee.{neg}
 use Rattle.elementary.specs.Notation.{lit}
 use Rattle.answers.specs.Answer.{Answer, refusal, value}
@@ -16,7 +16,7 @@ use Rattle.bssrdf.specs.Checks.{check11}
 use Rattle.bssrdf.specs.Drawing.{drawn_value}
 use Rattle.bssrdf.specs.declared.coefficients.Coefficients.{Coefficients}
 use Rattle.bssrdf.specs.declared.coefficients.WorldRadius.{WorldRadius}
-use Rattle.workstations.specs.Calls.{Sr, PdfSr, SampleSr, Call, Build, Ask, needed_rows, order_number, step, run}
+use Rattle.workstations.specs.Calls.{Query, Sr, PdfSr, SampleSr, Call, Build, Ask, needed_rows, order_number, argument_number, step, run}
 use Rattle.workstations.specs.Tally.{StartOf, rows_built}
 use Rattle.workstations.specs.Joint.{by_start, Workstation, session, table_after, IsValue}
 
@@ -89,6 +89,10 @@ mixed_answers =
     ∷ refusal 11
     ∷ []
 
+-- a list that builds every row
+abbrev pub every_row : List Call
+every_row = Build 0 ∷ Build 2 ∷ Build 1 ∷ []
+
 -- a workstation whose start on these lent lists is accepted, and that makes these calls
 abbrev pub starting : (lent : Lists) → (start three lent).answer ≡ done → List Call → Workstation three
 starting lent accepted calls = record { opening = by_start lent accepted; calls = calls }
@@ -126,6 +130,10 @@ pub record Examples : Type 0 where
   -- the longer list, after any accepted start: its answers, and the table after it
   pub mixed_answers_lem : (lent : Lists) (ok : (start three lent).answer ≡ done) → (session three (starting lent ok mixed)).answers ≡ mixed_answers
   pub mixed_table : (lent : Lists) (ok : (start three lent).answer ≡ done) → table_after three (starting lent ok mixed) ≡ table_of_row2
+  -- with every row built no query whose arguments pass their checks gets 11, whatever colour it asks for
+  pub every_row_built : (k : ℕ) → k < three.n → rows_built (StartOf three) every_row k ≡ true
+  pub never_missing : (lent : Lists) (ok : (start three lent).answer ≡ done) (q : Query) → argument_number three q ≡ 0
+      → (step three (table_after three (starting lent ok every_row)) (Ask q)).answer ≡ refusal 11 → ⊥
   -- a list of calls may be made in batches: a run of two lists is the run of the first, and then that of the second on the lists that it left
   pub run_append : (r : Record) (t : Lists) (xs ys : List Call)
       → let first = run r t xs in
