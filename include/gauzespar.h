@@ -97,7 +97,8 @@ static inline const char *gauzespar_message(uint32_t number)
  * n albedos and m radii, the phase function's g (0 scatters evenly, above 0 forward) and the index of refraction eta; and six lists
  * that are the caller's own. Only gauzespar_start and gauzespar_build write them. A mark of 1 says that its row is built. */
 
-/* Starts a table, whatever its lists hold: sets the nodes, and zeroes the rest, so that no row is built. Refusals: 1 to 5. */
+/* Starts a table, whatever its lists hold: sets the nodes, and zeroes the rest, so that no row is built. Refusals: 1 to 5.
+ * On a table that was started no later call with the same numbers, on the same lists, is refused with 1 to 6. */
 uint32_t gauzespar_start(size_t n, size_t m, float g, float eta,
                          float *rho_samples, size_t rho_samples_length,       /* n albedo nodes */
                          float *radius_samples, size_t radius_samples_length, /* m radius nodes */
