@@ -69,7 +69,7 @@ passes : (nodes : List Float) → nodes_ok nodes ≡ true → check6 nodes ≡ 0
 unfolding check6
 passes nodes h = rw h refl
 
-record_passed : (r : Record) (l : Lengths) → start_number r l ≡ 0 → record_number r ≡ 0
+pub record_passed : (r : Record) (l : Lengths) → start_number r l ≡ 0 → record_number r ≡ 0
 unfolding start_number
 record_passed r l e = (first_none (record_number r) _ e).0
 

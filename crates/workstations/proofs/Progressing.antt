@@ -4,18 +4,18 @@
 use mathlib.Core.Path.{◌≡◌, refl, sym, ap, ◌∙◌}
 use mathlib.Core.Bool.{Bool, true, false, cond, true≢false}
 use mathlib.Core.List.{List, [], ◌∷◌}
-use Prim.Native.Nat.{ℕ, ◌≤◌, ◌<◌}
-use native.Mathlib.Omega.{arith}
+use Prim.Native.Nat.{ℕ}
 use lib.Dec.{ltb}
 use Rattle.answers.specs.Answer.{Answer, answered, written, refusal}
 use Rattle.answers.specs.Checks.{unless_passed, first_of}
-use Rattle.answers.proofs.Refusals.{first_none, first_last, not_refused}
+use Rattle.answers.proofs.Refusals.{first_last, nothing, not_refused}
 use Rattle.table.specs.Parameters.{Lists, lengths_of, done}
-use Rattle.table.specs.Checks.{check5, check7, record_number, start_number, table_number, build_number}
+use Rattle.table.specs.Checks.{check7, record_number, start_number, table_number, build_number}
 use Rattle.table.specs.Starting.{start}
 use Rattle.table.specs.Building.{build}
 use Rattle.table.specs.Sets.{Rows, adding, table_with, table_of}
 use Rattle.table.specs.declared.parameters.Record.{Record}
+use Rattle.table.proofs.NodesPass.{record_passed}
 use Rattle.table.proofs.TableLaws.{table_laws}
 use Rattle.bssrdf.specs.Checks.{check8, query_number, draw_number}
 use Rattle.bssrdf.specs.Question.{Question, posed}
@@ -25,7 +25,7 @@ use Rattle.bssrdf.specs.Drawing.{sample_question}
 use Rattle.bssrdf.specs.Laws.{QueryLaws}
 use Rattle.workstations.specs.Calls.{Query, Sr, PdfSr, SampleSr, Call, Build, Ask, question, order_number, argument_number, ask, step}
 use Rattle.workstations.specs.Tally.{next, rows_after, answers_from}
-use Rattle.workstations.specs.Joint.{Opening, by_start, Workstation, rows_of, Builds, ByArguments, NoneMissing, Progress}
+use Rattle.workstations.specs.Joint.{Opening, by_start, rows_of, Builds, ByArguments, NoneMissing, Progress}
 use Rattle.workstations.proofs.Tallying.{after_is}
 use Rattle.workstations.proofs.Asking.{asks}
 use Rattle.workstations.proofs.Agreeing.{missing_on}
@@ -108,11 +108,8 @@ module _ (r : Record) (h : record_number r ≡ 0) where
 -- ---- a workstation's table
 
 opened_in_range : (r : Record) → Opening r → record_number r ≡ 0
-unfolding start start_number
-opened_in_range r (by_start lent accepted) = (first_none (record_number r) _ (none (not_refused _ done (ap (λ (a : Answer). a.refused) accepted)))).0
-  where
-    none : {k : ℕ} → k ≤ 0 → k ≡ 0
-    none l = omega arith
+unfolding start
+opened_in_range r (by_start lent accepted) = record_passed r (lengths_of lent) (nothing _ _ refl (not_refused _ done (ap (λ (a : Answer). a.refused) accepted)))
 
 builds : Builds
 builds r holds w i = rw (after_is r w) (build_answer r (opened_in_range r w.opening) (rows_of r w) i)

@@ -19,7 +19,7 @@ use Rattle.answers.specs.Answer.{Answer, answered, refusal}
 use Rattle.answers.specs.Refusal.{told}
 use Rattle.answers.specs.Checks.{first_of}
 use Rattle.interpolation.specs.Interval.{bisect, find_interval, at_most, node_interval}
-use Rattle.interpolation.specs.Nodes.{finite, all_below, all_finite, increasing, nodes_ok}
+use Rattle.interpolation.specs.Nodes.{finite}
 use Rattle.interpolation.specs.Weights.{within, first_part, last_part, four_at, offset_of, catmull_rom_weights}
 use Rattle.interpolation.specs.Blend.{row_of, add_row, interpolate, blend_at_most, blend_interval}
 use Rattle.interpolation.specs.Integral.{segment_integral, running_sum, cdf_of}
@@ -27,7 +27,7 @@ use Rattle.interpolation.specs.Slope.{width, slope_before, slope_after}
 use Rattle.interpolation.specs.Solve.{first_guess, bounded_by, integral_at, value_at, stops, round_of, solve_from, solve}
 use Rattle.interpolation.specs.Sample as Sample
 use Rattle.interpolation.specs.Sample.{segment_at, draw_from, sample_catmull_rom_2d}
-use Rattle.interpolation.specs.Checks.{max_rows, max_radii, max_allowance, check1, check2, check6, check9, check10}
+use Rattle.interpolation.specs.Checks.{max_rows, max_radii, max_allowance, check1, check2, check9, check10}
 use Rattle.scattering.specs.Literals.{half}
 use Rattle.scattering.specs.Clamp.{clamp_t}
 use Rattle.scattering.specs.Spectrum.{uniform, channel, plus, times, clamp, has_nans}
@@ -37,16 +37,15 @@ use Rattle.scattering.specs.declared.spectrum.RGBEnum.TheVariants.{Red, Green}
 use Rattle.starting_nodes.specs.Nodes.{radius_sample, rho_sample}
 use Rattle.table.specs.Nodes.{radius_samples, rho_samples}
 use Rattle.table.specs.Parameters.{RecordHolds, Lists, lengths_of, done}
-use Rattle.table.specs.Checks.{check3, check5, check7, record_number, start_number, table_number, build_number}
+use Rattle.table.specs.Checks.{check3, check5, record_number, start_number}
 use Rattle.table.specs.Row.{profile_row, cdf_row}
 use Rattle.table.specs.Starting.{start}
-use Rattle.table.specs.Building.{build}
 use Rattle.table.specs.TableRow.{built_row, empty_row}
 use Rattle.table.specs.Sets.{no_rows, rows_from, table_with, table_of}
 use Rattle.bssrdf.specs.Coefficients.{sigma_t, albedo, rho, optical}
 use Rattle.bssrdf.specs.Axes.{optical_radius, albedo_weights, radius_weights}
 use Rattle.bssrdf.specs.Needed.{row_if, weighted_rows, rows_of, rows_of_both, pdf_rows, sr_rows, sample_rows, is_marked, all_marked}
-use Rattle.bssrdf.specs.Checks.{coefficient_ok, check8, check11, check12, query_number, draw_number}
+use Rattle.bssrdf.specs.Checks.{coefficient_ok, check8, check11, check12}
 use Rattle.bssrdf.specs.Question.{posed}
 use Rattle.bssrdf.specs.Radiance.{eval_profile, add_product, add_cell, tensor, cancelled, channel_sr, channel_at, unclamped, sr_question}
 use Rattle.bssrdf.specs.Density.{density_of, density_at, pdf_question}
