@@ -98,7 +98,8 @@ static inline const char *gauzespar_message(uint32_t number)
  * that are the caller's own. Only gauzespar_start and gauzespar_build write them. A mark of 1 says that its row is built. */
 
 /* Starts a table, whatever its lists hold: sets the nodes, and zeroes the rest, so that no row is built. Refusals: 1 to 5.
- * On a table that was started no later call with the same numbers, on the same lists, is refused with 1 to 6. */
+ * Where these calls alone have written its lists, no later build or query with the same n, m, g and eta, on lists and outputs of
+ * their lengths, is refused with 1 to 6. */
 uint32_t gauzespar_start(size_t n, size_t m, float g, float eta,
                          float *rho_samples, size_t rho_samples_length,       /* n albedo nodes */
                          float *radius_samples, size_t radius_samples_length, /* m radius nodes */

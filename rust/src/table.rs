@@ -45,7 +45,7 @@ pub struct Progress {
 }
 
 impl Table {
-    /// Starts a table: its nodes are set, and no row is built. No later call on it is refused with 1 to 6.
+    /// Starts a table: its nodes are set, and no row is built. Its own build and queries are never refused with 1 to 6.
     ///
     /// Refusals: 1 to 4.
     pub fn start(record: Record) -> Result<Table, Refusal> {

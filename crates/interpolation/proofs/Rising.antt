@@ -1,5 +1,5 @@
 -- Check 6 of a list that a function of the index gives, by the sizes of its values in units: where they rise, none of them negative, and the last is at most a number that binary32 holds,
--- each value is below the next, and the last minus the first does not overflow (`nodes_pass`). Assumes nothing.
+-- each value is below the next, and the last minus the first does not overflow (`rising_passes`). Assumes nothing.
 use mathlib.Core.Path.{◌≡◌, refl, sym, ◌∙◌, subst}
 use mathlib.Core.Bool.{Bool, true, false}
 use Prim.Native.Nat.{ℕ, zero, suc, ◌+◌, ◌-◌, ◌*◌, ◌^◌, ◌≤◌, ◌<◌}
@@ -16,7 +16,7 @@ use Rattle.elementary.proofs.Filled.{length_list_of, get_or_list_of}
 use Rattle.interpolation.specs.Nodes.{finite, increasing, nodes_ok}
 use Rattle.interpolation.proofs.Finite.{all_each, ok_is}
 use Rattle.units.proofs.Near.{near_to}
-use Rattle.units.proofs.Sizes.{unit, limit, Val, minus_at, within, lt_of_values}
+use Rattle.units.proofs.Sizes.{unit, limit, InUnits, minus_at, within, lt_of_values}
 
 finite_at : (x : Float) (s : Bool) (a c : ℕ) → HasValue x s a c → finite x ≡ true
 unfolding finite
@@ -27,7 +27,7 @@ finite_at (fin t m e) s a c v = refl
 -- the first n values, by their sizes
 pub record Rising (n : ℕ) (f : ℕ → Float) : Type 0 where
   pub size : ℕ → ℕ
-  pub at : (k : ℕ) → k < n → Val binary32 (f k) false (size k)
+  pub at : (k : ℕ) → k < n → InUnits binary32 (f k) false (size k)
   pub step : (k : ℕ) → k + 1 < n → size k < size (k + 1)
   -- the number that the last is at most
   pub digits : ℕ
@@ -68,9 +68,9 @@ module _ (n : ℕ) (f : ℕ → Float) (two : 2 ≤ n) (r : Rising n f) where
       (finite_at (f (n - 1) ⊖ f 0) false (near_to 24 (r.size (n - 1) - r.size 0) 1) (unit binary32)
       (minus_at binary32 (f (n - 1)) (f 0) (r.size (n - 1)) (r.size 0) (r.at (n - 1) l) (r.at 0 o) (from_first (n - 1) l) a))
 
-  pub nodes_pass : nodes_ok (list_of n f) ≡ true
+  pub rising_passes : nodes_ok (list_of n f) ≡ true
   unfolding increasing
-  nodes_pass =
+  rising_passes =
       let e = length_list_of n f in
       ok_is (list_of n f) (le_trans two (le_of_eq (sym e)))
       ∙ rw (e, all_each (λ k. lt (node k) (node (k + 1))) (n - 1) (λ k l. rises k (omega arith)), span) refl

@@ -1,5 +1,5 @@
 -- The albedos of starting, for a decay d from 2 to 8 and an n from 2 to 1,024: they rise (`albedos`), are at most 2 (`sample_two`), and begin with +0 (`first`).
--- Each is (1 - E) / (1 - E(-d)). In parts of 2 ^ -40, of which `z` are one, the E of neighbours differ by 470,000. Of a difference up to 1 and of a quotient below 2 rounding moves each by at most 65,536, so 1 - E still differ by 338,928 (`rest_off`),
+-- Each is (1 - E) / (1 - E(-d)). In parts of 2 ^ -40, one of which is `z` units, the E of neighbours differ by 470,000. Of a difference up to 1 and of a quotient below 2 rounding moves each by at most 65,536, so 1 - E still differ by 338,928,
 -- and, the divisor being at most 1, the quotients by 207,856 (`albedo_step`). The divisor is above 1/2 (`C_above`), so no quotient is 2 or more before it is rounded. Assumes nothing.
 use mathlib.Core.Path.{◌≡◌, refl, sym, ap, ◌∙◌, subst}
 use mathlib.Core.Bool.{true, false}
@@ -18,8 +18,8 @@ use Rattle.scattering.specs.Literals.{one}
 use Rattle.starting_nodes.specs.Nodes.{rho_sample}
 use Rattle.elementary.proofs.Signs.{neg_at}
 use Rattle.interpolation.proofs.Rising.{Rising}
-use Rattle.units.proofs.Near.{near_to, OffBy}
-use Rattle.units.proofs.Sizes.{unit, unit_pos, limit, limit_pos, Val, within, div_at, minus_at}
+use Rattle.units.proofs.Near.{near_to, rest_off, OffBy}
+use Rattle.units.proofs.Sizes.{unit, unit_pos, limit, limit_pos, InUnits, within, div_at, minus_at}
 use Rattle.starting_nodes.proofs.Exponentials.{o, z, z_is, z_pos, o_under, most32, off32, exp_n, exp_at, exp_top, exp_apart, exp_quarter, Inside, inside_9}
 use Rattle.starting_nodes.proofs.Arguments.{zero_at, one_at, exponent, near_zero_of, argument, argument_zero, argument_at, argument_inside, argument_step, Range}
 
@@ -36,27 +36,18 @@ module _ (m : ℕ) (i : Inside m) where
   unfolding rest_n
   rest_top = most32 (o - exp_n m) 1 (pow_pos 0) rest_in
 
-  rest_at : (x : Float) → Val binary32 x true m → Val binary32 (one ⊖ exp x) false (rest_n m)
+  rest_at : (x : Float) → InUnits binary32 x true m → InUnits binary32 (one ⊖ exp x) false (rest_n m)
   unfolding rest_n
   rest_at x v = minus_at binary32 one (exp x) o (exp_n m) one_at (exp_at x m v (inside_9 i)) (exp_top m (inside_9 i)) (lt_of_le_of_lt rest_top o_under)
 
   -- 1 - E, up to 2 ^ -24
-  rest_off : (rest_n m + exp_n m ≤ o + 65536 * z) × (o ≤ rest_n m + exp_n m + 65536 * z)
+  one_less : (rest_n m + exp_n m ≤ o + 65536 * z) × (o ≤ rest_n m + exp_n m + 65536 * z)
   unfolding rest_n
-  rest_off =
-      let a : OffBy (near_to 24 (o - exp_n m) 1) (o - exp_n m) 1 (65536 * z) = off32 (o - exp_n m) 1 (pow_pos 0) (lt_of_le_of_lt rest_in (omega (arith, unit_pos binary32))) in
-      let t = exp_top m (inside_9 i) in
-      (at_most (exp_n m) (rest_n m) o (65536 * z) t a.0, at_least (exp_n m) (rest_n m) o (65536 * z) t a.1)
-    where
-      at_most : (q r u e : ℕ) → q ≤ u → r * 1 ≤ u - q + e * 1 → r + q ≤ u + e
-      at_most q r u e h g = omega arith
-
-      at_least : (q r u e : ℕ) → q ≤ u → u - q ≤ r * 1 + e * 1 → u ≤ r + q + e
-      at_least q r u e h g = omega arith
+  one_less = rest_off (exp_n m) (rest_n m) o (65536 * z) (exp_top m (inside_9 i)) (off32 (o - exp_n m) 1 (pow_pos 0) (lt_of_le_of_lt rest_in (omega (arith, unit_pos binary32))))
 
 -- ---- zeros
 
-minus_0_at : Val binary32 (neg (lit 0)) true 0
+minus_0_at : InUnits binary32 (neg (lit 0)) true 0
 minus_0_at = neg_at (lit 0) false 0 o zero_at
 
 zero_fits : T (fits binary32 (lit 0)) × T (fits binary32 (neg (lit 0)))
@@ -99,14 +90,14 @@ module _ (C : ℕ) (above : o < 2 * C) (top : C ≤ o) where
     unfolding albedo_n unit
     albedo_top = within binary32 (rest_n m * o) C 1 150 C_pos (lit< tt) (le_of_lt albedo_in)
 
-    albedo_at : (x y : Float) → Val binary32 x true m → Val binary32 y false C → Val binary32 ((one ⊖ exp x) ⊘ y) false (albedo_n C m)
+    albedo_at : (x y : Float) → InUnits binary32 x true m → InUnits binary32 y false C → InUnits binary32 ((one ⊖ exp x) ⊘ y) false (albedo_n C m)
     unfolding albedo_n
     albedo_at x y v w = div_at binary32 (one ⊖ exp x) y false (rest_n m) C o C_pos (unit_pos binary32) (rest_at m i x v) w (lt_of_le_of_lt albedo_top two_under)
 
   albedo_step : (m m' : ℕ) → Inside m → Inside m' → m + 2148000000 * z ≤ m' → albedo_n C m < albedo_n C m'
   albedo_step m m' i i' h =
-      let a = rest_off m i in
-      let a' = rest_off m' i' in
+      let a = one_less m i in
+      let a' = one_less m' i' in
       let e = exp_apart m m' i i' h in
       let g : rest_n m + 338928 * z ≤ rest_n m' = omega (arith, a.0, a'.1) in
       let b : (rest_n m + 338928 * z) * o ≤ rest_n m' * o = mul-le-mul_right o g in
@@ -119,22 +110,22 @@ module _ (C : ℕ) (above : o < 2 * C) (top : C ≤ o) where
 
 -- ---- the albedos
 
-module _ (d : Float) (D c : ℕ) (v : Val binary32 d false D) (r : Range D c) where
+module _ (d : Float) (D c : ℕ) (v : InUnits binary32 d false D) (r : Range D c) where
   -- 1 - E(-d) is above 1/2
   whole : Inside D
   whole = record { high = omega (arith, r.greatest) }
 
   C_above : o < 2 * rest_n D
-  C_above = omega (arith, (rest_off D whole).1, exp_quarter D whole r.least, z_is, z_pos)
+  C_above = omega (arith, (one_less D whole).1, exp_quarter D whole r.least, z_is, z_pos)
 
-  C_at : Val binary32 (one ⊖ exp (neg d)) false (rest_n D)
+  C_at : InUnits binary32 (one ⊖ exp (neg d)) false (rest_n D)
   C_at = rest_at D whole (neg d) (neg_at d false D o v)
 
   -- the albedo i, in units
   abbrev pub sample : ℕ → ℕ
   sample i = albedo_n (rest_n D) (argument D c i)
 
-  pub sample_at : (i : ℕ) → i ≤ c → Val binary32 (rho_sample d (suc c) i) false (sample i)
+  pub sample_at : (i : ℕ) → i ≤ c → InUnits binary32 (rho_sample d (suc c) i) false (sample i)
   unfolding rho_sample
   sample_at i l =
       albedo_at (rest_n D) C_above (rest_top D whole) (argument D c i) (argument_inside D c i r l) (exponent d (suc c) i) (one ⊖ exp (neg d)) (argument_at D c i r l d v) C_at
@@ -170,10 +161,10 @@ module _ (d : Float) (D c : ℕ) (v : Val binary32 d false D) (r : Range D c) wh
   first =
       let x = exponent d (suc c) 0 in
       let y = one ⊖ exp (neg d) in
-      let a : x ≡ neg (lit 0) = unique binary32 x (neg (lit 0)) true 0 (div-fits binary32 _ _) zero_fits.1 (subst (λ (k : ℕ). Val binary32 x true k) (argument_zero D c r.some) (argument_at D c 0 r (zero-le) d v)) minus_0_at in
+      let a : x ≡ neg (lit 0) = unique binary32 x (neg (lit 0)) true 0 (div-fits binary32 _ _) zero_fits.1 (subst (λ (k : ℕ). InUnits binary32 x true k) (argument_zero D c r.some) (argument_at D c 0 r (zero-le) d v)) minus_0_at in
       let p = C_pos (rest_n D) C_above (rest_top D whole) in
       let e = near_zero_of (0 * o) (rest_n D) p (zero-mul o) in
       let b : (one ⊖ exp x) ⊘ y ≡ lit 0 ⊘ y = ap (λ (e : Float). (one ⊖ exp e) ⊘ y) a ∙ ap (λ (e : Float). e ⊘ y) one_less_one in
       b ∙ unique binary32 (lit 0 ⊘ y) (lit 0) false 0 (div-fits binary32 _ _) zero_fits.0
-      (subst (λ (k : ℕ). Val binary32 (lit 0 ⊘ y) false k) e
+      (subst (λ (k : ℕ). InUnits binary32 (lit 0 ⊘ y) false k) e
       (div_at binary32 (lit 0) y false 0 (rest_n D) o p (unit_pos binary32) zero_at C_at (subst (λ (k : ℕ). k < limit binary32) (sym e) (limit_pos binary32)))) zero_at

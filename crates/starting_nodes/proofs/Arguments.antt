@@ -16,29 +16,29 @@ use Rattle.elementary.specs.Notation.{◌⊖◌, ◌⊗◌, ◌⊘◌, lit}
 use Rattle.scattering.specs.Literals.{one}
 use Rattle.elementary.proofs.Signs.{neg_at}
 use Rattle.units.proofs.Near.{near_to, near_to_off, near_to_fixes, near_zero, OffBy}
-use Rattle.units.proofs.Sizes.{unit, unit_pos, limit, Val, within, mul_at, div_at, minus_at}
+use Rattle.units.proofs.Sizes.{unit, unit_pos, limit, InUnits, within, mul_at, div_at, minus_at}
 use Rattle.starting_nodes.proofs.Exponentials.{o, z, z_is, Inside}
 
 -- ---- whole numbers
 
-in_units : (x : Float) (k : ℕ) → HasValue x false k 1 → Val binary32 x false (k * o)
+in_units : (x : Float) (k : ℕ) → HasValue x false k 1 → InUnits binary32 x false (k * o)
 in_units nan k v = absurd v
 in_units (inf s) k v = absurd v
 in_units (fin s m e) k v = (v.0, ap (λ (n : ℕ). n * o) (sym (mul-one (m * up e)) ∙ v.1) ∙ mul_right_comm k (down e) o)
 
-whole_at : (k : ℕ) → k ≤ 1024 → Val binary32 (of_int binary32 (pos k)) false (k * o)
+whole_at : (k : ℕ) → k ≤ 1024 → InUnits binary32 (of_int binary32 (pos k)) false (k * o)
 unfolding of_int
 whole_at k h = in_units (of_int binary32 (pos k)) k (round_whole binary32 false k (le_trans h (lit≤ tt)))
 
-pub zero_at : Val binary32 (lit 0) false 0
+pub zero_at : InUnits binary32 (lit 0) false 0
 unfolding of_bits
 zero_at = (refl, zero-mul o)
 
-pub one_at : Val binary32 one false o
+pub one_at : InUnits binary32 one false o
 unfolding of_bits
 one_at = (refl, mul_comm 1 o)
 
--- below 2 ^ 13, a whole number of units times a number that has one, is no infinity
+-- a fraction up to 8,193, rounded, is no infinity
 wide_under : (n c : ℕ) → 0 < c → n ≤ 8193 * o * c → near_to 24 n c < limit binary32
 unfolding unit limit
 wide_under n c C h = lt_of_le_of_lt (within binary32 n c 8193 149 C (lit< tt) h) (lit< tt)
@@ -51,12 +51,12 @@ less_one (suc k) h =
     ap (λ (n : ℕ). n - o) e ∙ add-sub_cancel (k * o) o ∙ ap (λ (n : ℕ). n * o) g
 
 -- n - 1
-pub count_at : (n : ℕ) → 1 ≤ n → n ≤ 1024 → Val binary32 (of_int binary32 (pos n) ⊖ one) false ((n - 1) * o)
+pub count_at : (n : ℕ) → 1 ≤ n → n ≤ 1024 → InUnits binary32 (of_int binary32 (pos n) ⊖ one) false ((n - 1) * o)
 unfolding unit
 count_at n h l =
     let e : near_to 24 (n * o - o) 1 ≡ (n - 1) * o = ap (λ (k : ℕ). near_to 24 k 1) (less_one n h) ∙ near_to_fixes 24 (n - 1) 149 (lt_of_le_of_lt {m = 1024} (omega arith) (lit< tt)) in
     let g : (n - 1) * o ≤ 8193 * o * 1 = le_trans (mul-le-mul_right {m = n - 1} {n = 8193} o (omega arith)) (le_of_eq (sym (mul-one (8193 * o)))) in
-    subst (λ (k : ℕ). Val binary32 (of_int binary32 (pos n) ⊖ one) false k) e
+    subst (λ (k : ℕ). InUnits binary32 (of_int binary32 (pos n) ⊖ one) false k) e
     (minus_at binary32 (of_int binary32 (pos n)) one (n * o) o (whole_at n l) one_at (le_trans (le_of_eq (sym (one-mul o))) (mul-le-mul_right o h))
     (wide_under (n * o - o) 1 (pow_pos 0) (le_trans (le_of_eq (less_one n h)) g)))
 
@@ -149,13 +149,13 @@ module _ (D c i : ℕ) (r : Range D c) (I : i ≤ c) where
       let e : o * c ≡ 1099511627776 * z * c = ap (λ (k : ℕ). k * c) z_is in
       record { high = le_of_mul-le-mul_right {m = 256 * argument D c i} {n = 2049 * o} {k = c} (omega arith) r.some }
 
-  pub argument_at : (d : Float) → Val binary32 d false D → Val binary32 (exponent d (suc c) i) true (argument D c i)
+  pub argument_at : (d : Float) → InUnits binary32 d false D → InUnits binary32 (exponent d (suc c) i) true (argument D c i)
   unfolding argument multiple
   argument_at d v =
-      let a : Val binary32 (neg d ⊗ of_int binary32 (pos i)) true (multiple D i) =
+      let a : InUnits binary32 (neg d ⊗ of_int binary32 (pos i)) true (multiple D i) =
       mul_at binary32 (neg d) (of_int binary32 (pos i)) true false D (i * o) (neg_at d false D o v) (whole_at i (omega (arith, I, r.many))) (wide_under (D * (i * o)) o (unit_pos binary32) (le_trans multiple_in (mul-le-mul_right o (mul-le-mul_right o (lit≤ tt))))) in
       div_at binary32 (neg d ⊗ of_int binary32 (pos i)) (of_int binary32 (pos (suc c)) ⊖ one) true (multiple D i) (c * o) o some_units (unit_pos binary32) a
-      (subst (λ (k : ℕ). Val binary32 (of_int binary32 (pos (suc c)) ⊖ one) false (k * o)) less (count_at (suc c) (omega arith) (omega (arith, r.many))))
+      (subst (λ (k : ℕ). InUnits binary32 (of_int binary32 (pos (suc c)) ⊖ one) false (k * o)) less (count_at (suc c) (omega arith) (omega (arith, r.many))))
       (wide_under (multiple D i * o) (c * o) some_units (le_trans quotient_in (mul-le-mul_right (c * o) (mul-le-mul_right o (lit≤ tt)))))
     where
       less : suc c - 1 ≡ c

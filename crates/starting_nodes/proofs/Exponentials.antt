@@ -17,10 +17,10 @@ use Rattle.elementary.specs.Notation.{◌⧄◌, lit, one64}
 use Rattle.elementary.specs.Convert.{narrow}
 use Rattle.elementary.specs.Exponential.{exp, series, c256, terms}
 use Rattle.units.proofs.Near.{near_to, near_to_off, OffBy}
-use Rattle.units.proofs.Sizes.{unit, unit_pos, limit, Val, within, div_at, narrow_at}
+use Rattle.units.proofs.Sizes.{unit, unit_pos, limit, InUnits, within, div_at, narrow_at}
 use Rattle.starting_nodes.proofs.Steps.{Small, Neighbours}
-use Rattle.starting_nodes.proofs.Horner.{U, E, E_is, most, under, off, one64_at, terms_n, terms_at, terms_top, terms_from, terms_apart}
-use Rattle.starting_nodes.proofs.Squarings.{W, Z, W_is, E_Z, squared_n, squared_at, squared_top, squared_high, squared_apart, high_n, gap_n}
+use Rattle.starting_nodes.proofs.Horner.{U, err, err_is, most, under, off, one64_at, terms_n, terms_at, terms_top, terms_from, terms_apart}
+use Rattle.starting_nodes.proofs.Squarings.{W, Z, W_is, err_Z, squared_n, squared_at, squared_top, squared_high, squared_apart, high_n, gap_n}
 
 -- ---- binary32's units
 
@@ -76,7 +76,7 @@ exp_n m = near_to 24 (power_n m * o) U
 
 -- ---- the floats
 
-wider : (x : Float) (s : Bool) (a : ℕ) → Val binary32 x s a → Val binary64 x s (a * S)
+wider : (x : Float) (s : Bool) (a : ℕ) → InUnits binary32 x s a → InUnits binary64 x s (a * S)
 wider nan s a v = absurd v
 wider (inf t) s a v = absurd v
 wider (fin t m e) s a v = (v.0, ap (λ (k : ℕ). m * up e * k) (sym S_is) ∙ sym (mul_assoc (m * up e) o S) ∙ ap (λ (k : ℕ). k * S) v.1 ∙ mul_right_comm a (down e) S)
@@ -94,18 +94,18 @@ arg_top : (m : ℕ) → m ≤ 9 * o → arg_n m ≤ U
 unfolding arg_n
 arg_top m h = most (m * S) 256 (lit< tt) (arg_in m h)
 
-arg_at : (x : Float) (m : ℕ) → Val binary32 x true m → m ≤ 9 * o → Val binary64 (x ⧄ c256) true (arg_n m)
+arg_at : (x : Float) (m : ℕ) → InUnits binary32 x true m → m ≤ 9 * o → InUnits binary64 (x ⧄ c256) true (arg_n m)
 unfolding arg_n
 arg_at x m v h =
     let a : near_to 53 (m * S * 1) 256 ≡ near_to 53 (m * S) 256 = ap (λ (n : ℕ). near_to 53 n 256) (mul-one (m * S)) in
-    subst (λ (n : ℕ). Val binary64 (x ⧄ c256) true n) a
+    subst (λ (n : ℕ). InUnits binary64 (x ⧄ c256) true n) a
     (div_at binary64 x c256 true (m * S) 256 1 (lit< tt) (pow_pos 0) (wider x true m v) c256_at (subst (λ (n : ℕ). n < limit binary64) (sym a) (under (m * S) 256 (lit< tt) (arg_in m h))))
 
 power_top : (m : ℕ) → m ≤ 9 * o → power_n m ≤ U
 unfolding power_n
 power_top m h = squared_top 8 (terms_n 10 (arg_n m) U) (terms_top 10 (arg_n m) U (arg_top m h) (le_refl U))
 
-series_at : (x : Float) (m : ℕ) → Val binary32 x true m → m ≤ 9 * o → Val binary64 (series x) false (power_n m)
+series_at : (x : Float) (m : ℕ) → InUnits binary32 x true m → m ≤ 9 * o → InUnits binary64 (series x) false (power_n m)
 unfolding series power_n
 series_at x m v h =
     squared_at 8 (terms_n 10 (arg_n m) U) (terms 10 (x ⧄ c256) one64) (terms_top 10 (arg_n m) U (arg_top m h) (le_refl U))
@@ -119,7 +119,7 @@ unfolding exp_n
 exp_top m h = most32 (power_n m * o) U (unit_pos binary64) (exp_in m h)
 
 -- the three tests of E fail
-tests : (x : Float) (m : ℕ) → Val binary32 x true m → m ≤ 9 * o → T (not (is_nan x)) × T (not (lt x (neg (lit 0x42d0_0000)))) × T (not (le (lit 0x42b2_0000) x))
+tests : (x : Float) (m : ℕ) → InUnits binary32 x true m → m ≤ 9 * o → T (not (is_nan x)) × T (not (lt x (neg (lit 0x42d0_0000)))) × T (not (le (lit 0x42b2_0000) x))
 unfolding is_nan lt le eq neg of_bits
 tests nan m v h = absurd v
 tests (inf t) m v h = absurd v
@@ -137,21 +137,21 @@ tests (fin true n e) m v h = (tt, low, high)
     high : T (not (false || (eqb (89 * 1 * down e) (n * up e * 1) && (false || eqb (89 * 1 * down e) 0))))
     high = rw (ne_eqb (89 * 1 * down e) (n * up e * 1) (λ (k : 89 * 1 * down e ≡ n * up e * 1). omega (arith, small, down_pos e))) tt
 
-exp_is : (x : Float) (m : ℕ) → Val binary32 x true m → m ≤ 9 * o → exp x ≡ narrow (series x)
+exp_is : (x : Float) (m : ℕ) → InUnits binary32 x true m → m ≤ 9 * o → exp x ≡ narrow (series x)
 unfolding exp
 exp_is x m v h =
     let t = tests x m v h in
     cond_no (is_nan x) _ _ t.0 ∙ cond_no (lt x (neg (lit 0x42d0_0000))) _ _ t.1 ∙ cond_no (le (lit 0x42b2_0000) x) _ _ t.2
 
-pub exp_at : (x : Float) (m : ℕ) → Val binary32 x true m → m ≤ 9 * o → Val binary32 (exp x) false (exp_n m)
+pub exp_at : (x : Float) (m : ℕ) → InUnits binary32 x true m → m ≤ 9 * o → InUnits binary32 (exp x) false (exp_n m)
 unfolding exp_n
 exp_at x m v h =
-    subst (λ (y : Float). Val binary32 y false (near_to 24 (power_n m * o) U)) (sym (exp_is x m v h))
+    subst (λ (y : Float). InUnits binary32 y false (near_to 24 (power_n m * o) U)) (sym (exp_is x m v h))
     (narrow_at binary32 binary64 (series x) false (power_n m) (series_at x m v h) (lt_of_le_of_lt (exp_top m h) o_under))
 
 -- ---- two arguments
 
-arg_off : (m : ℕ) → m ≤ 9 * o → (arg_n m * 256 ≤ m * S + E * 256) × (m * S ≤ arg_n m * 256 + E * 256)
+arg_off : (m : ℕ) → m ≤ 9 * o → (arg_n m * 256 ≤ m * S + err * 256) × (m * S ≤ arg_n m * 256 + err * 256)
 unfolding arg_n
 arg_off m h = off (m * S) 256 (lit< tt) (arg_in m h)
 
@@ -162,14 +162,14 @@ pub record Inside (m : ℕ) : Type 0 where
 pub inside_9 : {m : ℕ} → Inside m → m ≤ 9 * o
 inside_9 {m} i = omega (arith, i.high)
 
-arg_limit : (m : ℕ) → Inside m → 65536 * arg_n m ≤ 2049 * U + 65536 * E
+arg_limit : (m : ℕ) → Inside m → 65536 * arg_n m ≤ 2049 * U + 65536 * err
 arg_limit m i =
     let a = arg_off m (inside_9 i) in
     let b : 256 * m * S ≤ 2049 * o * S = mul-le-mul_right S i.high in
     omega (arith, S_is)
 
-arg_small : (m : ℕ) → Inside m → Small U E (arg_n m)
-arg_small m i = let a = arg_limit m i in record { some = unit_pos binary64; fine = omega (arith, E_is); low = omega (arith, E_is) }
+arg_small : (m : ℕ) → Inside m → Small U err (arg_n m)
+arg_small m i = let a = arg_limit m i in record { some = unit_pos binary64; fine = omega (arith, err_is); low = omega (arith, err_is) }
 
 -- the series: from 1 down, at a distance d
 start : (d : ℕ) → Neighbours U d U U
@@ -179,9 +179,9 @@ sum_low : (m : ℕ) → Inside m → 63486 * W ≤ terms_n 10 (arg_n m) U
 sum_low m i =
     let a = arg_limit m i in
     let b = terms_from 9 (arg_n m) U (arg_top m (inside_9 i)) (le_refl U) in
-    omega (arith, E_is, W_is)
+    omega (arith, err_is, W_is)
 
-sum_apart : (y y' : ℕ) → y ≤ y' → y ≤ U → y' ≤ U → E * 1024 + y ≤ y' → Small U E y' → 30 * terms_n 10 y' U + 28 * y' ≤ 30 * terms_n 10 y U + 28 * y + 178 * E
+sum_apart : (y y' : ℕ) → y ≤ y' → y ≤ U → y' ≤ U → err * 1024 + y ≤ y' → Small U err y' → 30 * terms_n 10 y' U + 28 * y' ≤ 30 * terms_n 10 y U + 28 * y + 178 * err
 sum_apart y y' h t t' f m =
     let a = terms_apart 9 y y' U U (y' - y) (lit≤ tt) m (omega arith) (omega arith) t t' (start (y' - y)) in
     omega arith
@@ -203,9 +203,9 @@ power_apart m m' i i' h =
     let b : (m + 2148000000 * z) * S ≤ m' * S = mul-le-mul_right S h in
     let y = arg_n m in
     let y' = arg_n m' in
-    let c : 256 * y + 2148000000 * Z ≤ 256 * y' + 512 * E = omega (arith, S_z) in
-    let d = sum_apart y y' (omega (arith, E_Z)) (arg_top m (inside_9 i)) (arg_top m' (inside_9 i')) (omega (arith, E_Z)) (arg_small m' i') in
-    let g : terms_n 10 y' U + 7831000 * Z ≤ terms_n 10 y U = omega (arith, E_Z) in
+    let c : 256 * y + 2148000000 * Z ≤ 256 * y' + 512 * err = omega (arith, S_z) in
+    let d = sum_apart y y' (omega (arith, err_Z)) (arg_top m (inside_9 i)) (arg_top m' (inside_9 i')) (omega (arith, err_Z)) (arg_small m' i') in
+    let g : terms_n 10 y' U + 7831000 * Z ≤ terms_n 10 y U = omega (arith, err_Z) in
     subst (λ (k : ℕ). squared_n 8 (terms_n 10 y' U) + k * Z ≤ squared_n 8 (terms_n 10 y U)) gap_is
     (squared_apart 8 (terms_n 10 y' U) (terms_n 10 y U) 7831000 63486 (terms_top 10 y U (arg_top m (inside_9 i)) (le_refl U)) (terms_top 10 y' U (arg_top m' (inside_9 i')) (le_refl U)) (sum_low m' i') g)
 
@@ -229,11 +229,11 @@ power_quarter m i h =
     let a = arg_off m (inside_9 i) in
     let b : 2 * o * S ≤ m * S = mul-le-mul_right S h in
     let y = arg_n m in
-    let c : 2 * U ≤ 256 * y + 256 * E = omega (arith, S_is) in
+    let c : 2 * U ≤ 256 * y + 256 * err = omega (arith, S_is) in
     let t = arg_top m (inside_9 i) in
-    let d = sum_apart 0 y (omega arith) (omega arith) t (omega (arith, E_is)) (arg_small m i) in
+    let d = sum_apart 0 y (omega arith) (omega arith) t (omega (arith, err_is)) (arg_small m i) in
     let e = terms_top 10 0 U (omega arith) (le_refl U) in
-    let g : terms_n 10 y U ≤ 65060 * W = omega (arith, E_is, W_is) in
+    let g : terms_n 10 y U ≤ 65060 * W = omega (arith, err_is, W_is) in
     subst (λ (k : ℕ). squared_n 8 (terms_n 10 y U) ≤ k * W) high_is (squared_high 8 (terms_n 10 y U) 65060 (terms_top 10 y U t (le_refl U)) g)
 
 pub exp_quarter : (m : ℕ) → Inside m → 2 * o ≤ m → 4 * exp_n m ≤ o

@@ -1,6 +1,7 @@
 -- The laws of the nodes.
 pub mod Literals
 pub mod NodeLists
+pub mod Holding
 -- E at the exponents of the albedos, over whole numbers: a term, the series, the squarings
 pub mod Steps
 pub mod Horner

@@ -22,18 +22,18 @@ use Rattle.starting_nodes.proofs.Arguments.{zero_at, Range}
 use Rattle.starting_nodes.proofs.Albedos as Albedos
 use Rattle.starting_nodes.proofs.Exponentials.{o}
 use Rattle.starting_nodes.proofs.Radii as Radii
-use Rattle.units.proofs.Sizes.{unit, unit_pos, Val}
+use Rattle.units.proofs.Sizes.{unit, unit_pos, InUnits}
 
 -- ---- a value between two, in units
 
 -- x is from a / c up to b / e, and has `size` units
 record Between (x : Float) (a c b e : ℕ) : Type 0 where
   size : ℕ
-  is : Val binary32 x false size
+  is : InUnits binary32 x false size
   low : a * o ≤ size * c
   high : size * e ≤ b * o
 
-mag_of : (x : Float) → T (positive x) → T (fits binary32 x) → Val binary32 x false (mag x)
+mag_of : (x : Float) → T (positive x) → T (fits binary32 x) → InUnits binary32 x false (mag x)
 unfolding unit
 mag_of nan p F = absurd p
 mag_of (inf s) p F = absurd p
@@ -67,7 +67,7 @@ positives = (tt, tt, tt)
 radii_pass : (growth : Float) (m : ℕ) → Within «1·01» two growth → 2 ≤ m → m ≤ 64 → nodes_ok (list_of m (radius_sample growth)) ≡ true
 radii_pass growth m h a b =
     let k = between_at «1·01» growth two 8472494 8388608 2 1 positives.0 positives.1 low_at two_at h in
-    Rising.nodes_pass m (radius_sample growth) a (Radii.radii growth k.size k.is (omega (arith, k.low)) (omega (arith, k.high)) m a (omega arith))
+    Rising.rising_passes m (radius_sample growth) a (Radii.radii growth k.size k.is (omega (arith, k.low)) (omega (arith, k.high)) m a (omega arith))
 
 first_radii : (growth : Float) → (radius_sample growth 0 ≡ lit 0) × (radius_sample growth 1 ≡ «0·0025»)
 unfolding radius_sample
@@ -84,7 +84,7 @@ module _ (decay : Float) (h : Within two eight decay) where
 
   pass : (n : ℕ) → 2 ≤ n → n ≤ 1024 → nodes_ok (list_of n (rho_sample decay n)) ≡ true
   pass zero a b = absurd (omega arith)
-  pass (suc c) a b = Rising.nodes_pass (suc c) (rho_sample decay (suc c)) a (Albedos.albedos decay decay_at.size c decay_at.is (range c a b))
+  pass (suc c) a b = Rising.rising_passes (suc c) (rho_sample decay (suc c)) a (Albedos.albedos decay decay_at.size c decay_at.is (range c a b))
 
   first : (n : ℕ) → 2 ≤ n → n ≤ 1024 → rho_sample decay n 0 ≡ lit 0
   first zero a b = absurd (omega arith)

@@ -8,10 +8,9 @@ use native.Mathlib.Omega.{arith}
 use lib.Dec.{lit<, lit≤}
 use lib.Pow.{pow_pos, pow-lt}
 use lib.Ieee.{Float, binary32, of_bits}
-use Rattle.elementary.specs.Notation.{lit}
 use Rattle.starting_nodes.specs.Nodes.{«0·0025», radius_sample}
 use Rattle.units.proofs.Near.{near_to, near_to_mono, near_error}
-use Rattle.units.proofs.Sizes.{unit, unit_pos, limit, Val, within, mul_at}
+use Rattle.units.proofs.Sizes.{unit, unit_pos, limit, InUnits, within, mul_at}
 use Rattle.starting_nodes.proofs.Exponentials.{o}
 use Rattle.starting_nodes.proofs.Arguments.{zero_at}
 use Rattle.interpolation.proofs.Rising.{Rising}
@@ -20,7 +19,7 @@ use Rattle.interpolation.proofs.Rising.{Rising}
 unfoldable pub first_n : ℕ
 first_n = 10737418 * 2 ^ 117
 
-first_at : Val binary32 «0·0025» false first_n
+first_at : InUnits binary32 «0·0025» false first_n
 unfolding of_bits unit first_n
 first_at = (refl, refl)
 
@@ -49,8 +48,8 @@ grows R G l g = go (near_to 24 (R + R / 128) 1) ((near_error (R + R / 128)).1) (
     go : (n : ℕ) → (R + R / 128) * 16777216 ≤ n * 16777216 + (R + R / 128) → n ≤ near_to 24 (R * G) o → R < near_to 24 (R * G) o
     go n e h = lt_of_lt_of_le {m = n} (omega arith) h
 
-module _ (g : Float) (G : ℕ) (v : Val binary32 g false G) (low : 129 * o ≤ 128 * G) (high : G ≤ 2 * o) where
-  -- at most 2 ^ (140 + j) units
+module _ (g : Float) (G : ℕ) (v : InUnits binary32 g false G) (low : 129 * o ≤ 128 * G) (high : G ≤ 2 * o) where
+  -- the radius j + 1 is at most 2 ^ (141 + j) units
   bound : (j : ℕ) → radius_n G (suc j) ≤ 1 * 2 ^ (141 + j)
   unfolding radius_n first_n
   bound zero = lit≤ tt
@@ -75,7 +74,7 @@ module _ (g : Float) (G : ℕ) (v : Val binary32 g false G) (low : 129 * o ≤ 1
   unfolding limit
   held j l = lt_of_le_of_lt (le_of_eq (one-mul (2 ^ (141 + j)))) (pow-lt (room j l))
 
-  radius_is : (j : ℕ) → j < 128 → Val binary32 (radius_sample g j) false (radius_n G j)
+  radius_is : (j : ℕ) → j < 128 → InUnits binary32 (radius_sample g j) false (radius_n G j)
   unfolding radius_sample radius_n
   radius_is zero l = zero_at
   radius_is (suc zero) l = first_at

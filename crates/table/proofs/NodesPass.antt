@@ -13,10 +13,12 @@ use Rattle.elementary.proofs.Filled.{get_or_list_of}
 use Rattle.answers.specs.Checks.{first_of}
 use Rattle.answers.proofs.Refusals.{first_none}
 use Rattle.interpolation.specs.Nodes.{nodes_ok}
+use Rattle.interpolation.specs.Laws.{Holds}
 use Rattle.interpolation.specs.Checks.{check6, max_rows, max_radii}
 use Rattle.scattering.specs.Literals.{two}
 use Rattle.starting_nodes.specs.Nodes.{«0·0025», «1·2», eight, radius_sample, rho_sample}
 use Rattle.starting_nodes.specs.Laws.{«1·01», Within}
+use Rattle.starting_nodes.proofs.Holding.{radii_hold, albedos_hold}
 use Rattle.starting_nodes.proofs.NodeLaws.{node_laws}
 use Rattle.table.specs.Checks.{record_number, start_number, table_number}
 use Rattle.table.specs.Nodes.{rho_samples, radius_samples}
@@ -31,6 +33,11 @@ growth_within = (of_bits-fits binary32 0x3f99_999a, tt, tt)
 decay_within : Within two eight eight
 unfolding le lt eq of_bits
 decay_within = (of_bits-fits binary32 0x4100_0000, tt, tt)
+
+-- of any record, they are values of binary32
+pub samples_hold : (r : Record) → Holds (rho_samples r) × Holds (radius_samples r)
+unfolding rho_samples radius_samples
+samples_hold r = (albedos_hold eight r.n, radii_hold «1·2» r.m)
 
 module _ (r : Record) (h : record_number r ≡ 0) where
   range : InRange r

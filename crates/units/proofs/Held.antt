@@ -15,6 +15,7 @@ use Rattle.elementary.proofs.Magnitude.{mag_at}
 use Rattle.units.specs.Units.{Number, one, plus}
 use Rattle.units.proofs.Near.{near, near_fixes}
 use Rattle.units.proofs.Rounded.{cap, cap_pos}
+use Rattle.units.proofs.Sizes.{limit}
 
 pub one_pos : 0 < one
 unfolding one
@@ -35,7 +36,7 @@ held_zero = record { digits = 0; places = 0; small = pow_pos 24; is = refl; in_r
 
 -- a whole number below 16, in units
 held_whole : (k : ℕ) → k < 16 → Held (k * one)
-unfolding one cap
+unfolding one limit
 held_whole k h = record { digits = k; places = 149; small = lt_of_lt_of_le h (lit≤ tt); is = refl; in_range = lt_of_lt_of_le (shl_lt 4 149 h) (lit≤ tt) }
 
 pub held_one : Held one
@@ -60,7 +61,7 @@ held_double {n} h l =
 -- ---- a value that fits
 
 mag_held : (s : Bool) (m : ℕ) (e : ℤ) → T (fits binary32 (fin s m e)) → Held (mag (fin s m e))
-unfolding cap
+unfolding limit
 mag_held s m e t =
     let u = finite_units binary32 s m e t in
     let q = u.0 in

@@ -1,6 +1,6 @@
 -- What rounding to p digits does, over natural numbers: `near_to p n c` is the fraction n / c, rounded; and to the 24 digits of binary32, `near n c`, where n / c is a number of units.
--- It keeps the order (`near_mono`): either two fractions drop as many digits, and then the kept numbers are in order, or a power of two lies between the results.
--- What has p digits and zeros after them loses only zeros (`near_fixes`). A fraction below 2 ^ (p + k + 1) moves by at most 2 ^ k (`near_to_off`), and a whole number n by at most half of the last digit kept, which is n / 2 ^ 24 at most (`near_error`).
+-- It keeps the order (`near_to_mono`): either two fractions drop as many digits, and then the kept numbers are in order, or a power of two lies between the results.
+-- What has p digits and zeros after them loses only zeros (`near_to_fixes`). A fraction below 2 ^ (p + k + 1) moves by at most 2 ^ k (`near_to_off`), and a whole number n by at most half of the last digit kept, which is n / 2 ^ 24 at most (`near_error`).
 -- Nothing here is about floats. Assumes nothing.
 use mathlib.Core.Path.{◌≡◌, refl, sym, ap, ◌∙◌, subst}
 use mathlib.Core.Bool.{not}
@@ -150,6 +150,10 @@ near_to_off p k n c C h =
 
         at : (v u e : ℕ) → v * (c * u) * 2 ≤ n * 2 + c * u → n * 2 ≤ v * (c * u) * 2 + c * u → c * u ≤ c * (2 * e) → OffBy (v * u) n c e
         at v u e x y z = (omega arith, omega arith)
+
+-- the same of a difference of whole numbers
+pub rest_off : (q r u e : ℕ) → q ≤ u → OffBy r (u - q) 1 e → (r + q ≤ u + e) × (u ≤ r + q + e)
+rest_off q r u e h o = (omega (arith, o.0), omega (arith, o.1))
 
 -- ---- 24 digits
 

@@ -19,20 +19,20 @@ use Rattle.elementary.specs.Units.{mag}
 use Rattle.elementary.proofs.Magnitude.{mag_at, mag_exact}
 use Rattle.units.specs.Units.{Number, one, plus, minus}
 use Rattle.units.proofs.Near.{near, near_to, near_same, near_zero}
-use Rattle.units.proofs.Sizes.{unit, limit, round_units}
+use Rattle.units.proofs.Sizes.{unit, limit, limit_pos, round_units}
 
 -- from 2 ^ 128 on a value is an infinity: that number in units
-unfoldable pub cap : ℕ
-cap = 2 ^ 277
+abbrev pub cap : ℕ
+cap = limit binary32
 
 -- ---- what `round` makes
 
 round_value : (s : Bool) (a c : ℕ) → near (a * one) c < cap → HasValue (round binary32 s a c) s (near (a * one) c) one
-unfolding one cap unit limit
+unfolding one unit
 round_value = round_units binary32
 
 units_under : (s : Bool) (q k : ℕ) → T (finite (units binary32 s q k)) → q * 2 ^ k < cap
-unfolding units cap
+unfolding units limit
 units_under s q k = go (ltb (q * 2 ^ k) cap) (ltb→lt (q * 2 ^ k) cap)
   where
     go : (b : Bool) → (T b → q * 2 ^ k < cap) → T (finite (cond b (odd 25 s q k 149) (inf s))) → q * 2 ^ k < cap
@@ -91,8 +91,7 @@ value z p m w r W P M = subst (λ (x : Float). Value x (near p w) (near m w)) (s
     go false e o = value_of (round binary32 false a c) false (near p w) (near m w) (at false p e P) (none m o)
 
 pub cap_pos : 0 < cap
-unfolding cap
-cap_pos = pow_pos 277
+cap_pos = limit_pos binary32
 
 pub under : (z : Float) (p m w : ℕ) → Rounded z p m w → 0 < w → T (finite z) → (near p w < cap) × (near m w < cap)
 under z p m w r W t = go r.sign r.same r.other (round_under r.sign r.num r.den (subst (λ (x : Float). T (finite x)) r.is t))

@@ -1,4 +1,4 @@
--- What the operations make of values, in units of the format's smallest value: `Val f x s a` says that x is finite, has the sign s, and is a units in size.
+-- What the operations make of values, in units of the format's smallest value: `InUnits f x s a` says that x is finite, has the sign s, and is a units in size.
 -- A product, a quotient and a difference is the exact one in units, rounded to the format's digits (`near_to`). Assumes nothing.
 use mathlib.Core.Path.{◌≡◌, refl, sym, ap, ◌∙◌, subst}
 use mathlib.Core.Bool.{Bool, true, false, not, cond, true≢false, false≢true}
@@ -31,32 +31,32 @@ pub limit_pos : (f : Format) → 0 < limit f
 unfolding limit
 limit_pos f = pow_pos (low f + suc (emax f))
 
-abbrev pub Val : Format → Float → Bool → ℕ → Type 0
-Val f x s a = HasValue x s a (unit f)
+abbrev pub InUnits : Format → Float → Bool → ℕ → Type 0
+InUnits f x s a = HasValue x s a (unit f)
 
 prec_pos : (f : Format) → 0 < prec f
 prec_pos f = two-le_pos (prec f) (two f)
 
 -- ---- what `round` makes
 
-pub round_units : (f : Format) (s : Bool) (a c : ℕ) → near_to (prec f) (a * unit f) c < limit f → Val f (round f s a c) s (near_to (prec f) (a * unit f) c)
+pub round_units : (f : Format) (s : Bool) (a c : ℕ) → near_to (prec f) (a * unit f) c < limit f → InUnits f (round f s a c) s (near_to (prec f) (a * unit f) c)
 unfolding near_to unit limit
 round_units f s a c h =
     subst (λ (z : Float). HasValue z s (near_to (prec f) (a * unit f) c) (unit f)) (sym (round_is f s a c)) (units_val f s (kept (prec f) (a * unit f) c) (drop (prec f) (a * unit f) c) h)
 
 -- of a fraction num / den that is a / c units
-pub round_at : (f : Format) (s : Bool) (num den a c : ℕ) → 0 < den → 0 < c → num * (c * unit f) ≡ a * den → near_to (prec f) a c < limit f → Val f (round f s num den) s (near_to (prec f) a c)
+pub round_at : (f : Format) (s : Bool) (num den a c : ℕ) → 0 < den → 0 < c → num * (c * unit f) ≡ a * den → near_to (prec f) a c < limit f → InUnits f (round f s num den) s (near_to (prec f) a c)
 round_at f s num den a c D C e h =
     let g : near_to (prec f) (num * unit f) den ≡ near_to (prec f) a c =
     near_to_same (prec f) (num * unit f) den a c (prec_pos f) D C (mul_assoc num (unit f) c ∙ ap (λ (k : ℕ). num * k) (mul_comm (unit f) c) ∙ e) in
-    subst (λ (k : ℕ). Val f (round f s num den) s k) g (round_units f s num den (subst (λ (k : ℕ). k < limit f) (sym g) h))
+    subst (λ (k : ℕ). InUnits f (round f s num den) s k) g (round_units f s num den (subst (λ (k : ℕ). k < limit f) (sym g) h))
 
 -- ---- products
 
 sizes : (m n d e a b u : ℕ) → m * u ≡ a * d → n * u ≡ b * e → m * n * (u * u) ≡ a * b * (d * e)
 sizes m n d e a b u p q = mul-mul-mul_comm m n u u ∙ cc (p, q) ∙ mul-mul-mul_comm a d b e
 
-pub mul_at : (f : Format) (x y : Float) (s t : Bool) (a b : ℕ) → Val f x s a → Val f y t b → near_to (prec f) (a * b) (unit f) < limit f → Val f (mul f x y) (unlike s t) (near_to (prec f) (a * b) (unit f))
+pub mul_at : (f : Format) (x y : Float) (s t : Bool) (a b : ℕ) → InUnits f x s a → InUnits f y t b → near_to (prec f) (a * b) (unit f) < limit f → InUnits f (mul f x y) (unlike s t) (near_to (prec f) (a * b) (unit f))
 unfolding mul
 mul_at f nan y s t a b v w h = absurd v
 mul_at f (inf z) y s t a b v w h = absurd v
@@ -64,14 +64,14 @@ mul_at f (fin s' m e) nan s t a b v w h = absurd w
 mul_at f (fin s' m e) (inf z) s t a b v w h = absurd w
 mul_at f (fin s' m e) (fin t' n d) s t a b v w h =
     let g : unlike s' t' ≡ unlike s t = cc (v.0, w.0) in
-    subst (λ (z : Bool). Val f (round f (unlike s' t') (m * up e * (n * up d)) (down e * down d)) z (near_to (prec f) (a * b) (unit f))) g
+    subst (λ (z : Bool). InUnits f (round f (unlike s' t') (m * up e * (n * up d)) (down e * down d)) z (near_to (prec f) (a * b) (unit f))) g
     (round_at f (unlike s' t') (m * up e * (n * up d)) (down e * down d) (a * b) (unit f) (mul-pos (down_pos e) (down_pos d)) (unit_pos f) (sizes (m * up e) (n * up d) (down e) (down d) a b (unit f) v.1 w.1) h)
 
 -- ---- quotients by a y above zero, whose size is b / k
 
-pub div_at : (f : Format) (x y : Float) (s : Bool) (a b k : ℕ) → 0 < b → 0 < k → Val f x s a → HasValue y false b k → near_to (prec f) (a * k) b < limit f → Val f (div f x y) s (near_to (prec f) (a * k) b)
+pub div_at : (f : Format) (x y : Float) (s : Bool) (a b k : ℕ) → 0 < b → 0 < k → InUnits f x s a → HasValue y false b k → near_to (prec f) (a * k) b < limit f → InUnits f (div f x y) s (near_to (prec f) (a * k) b)
 div_at f x y s a b k B K v w h =
-    subst (λ (z : Float). Val f z s (near_to (prec f) (a * k) b)) (sym (Quotients.div_at f x y s a (unit f) b k (unit_pos f) B K v w))
+    subst (λ (z : Float). InUnits f z s (near_to (prec f) (a * k) b)) (sym (Quotients.div_at f x y s a (unit f) b k (unit_pos f) B K v w))
     (round_at f s (a * k) (b * unit f) (a * k) b (mul-pos B (unit_pos f)) B refl h)
 
 -- ---- a difference x + -y for y ≤ x
@@ -95,7 +95,7 @@ apart A B c a b u p q =
 over : (x d a e u : ℕ) → x * u ≡ a * e → x * d * u ≡ a * (e * d)
 over x d a e u p = mul_right_comm x d u ∙ ap (λ (k : ℕ). k * d) p ∙ mul_assoc a e d
 
-pub sub_at : (f : Format) (x y : Float) (a b : ℕ) → Val f x false a → Val f y true b → b ≤ a → near_to (prec f) (a - b) 1 < limit f → Val f (add f x y) false (near_to (prec f) (a - b) 1)
+pub sub_at : (f : Format) (x y : Float) (a b : ℕ) → InUnits f x false a → InUnits f y true b → b ≤ a → near_to (prec f) (a - b) 1 < limit f → InUnits f (add f x y) false (near_to (prec f) (a - b) 1)
 unfolding add
 sub_at f nan y a b v w l h = absurd v
 sub_at f (inf z) y a b v w l h = absurd v
@@ -110,29 +110,29 @@ sub_at f (fin false m e) (fin true n d) a b v w l h =
     let p : A * unit f ≡ a * c = over (m * up e) (down d) a (down e) (unit f) v.1 in
     let q : B * unit f ≡ b * c = over (n * up d) (down e) b (down d) (unit f) w.1 ∙ ap (λ (k : ℕ). b * k) (mul_comm (down d) (down e)) in
     let i : B ≤ A = le_of_mul-le-mul_right (le_trans (le_of_eq q) (le_trans (mul-le-mul_right c l) (le_of_eq (sym p)))) (unit_pos f) in
-    subst (λ (z : Float). Val f z false (near_to (prec f) (a - b) 1)) (sym (pick f A B c i))
+    subst (λ (z : Float). InUnits f z false (near_to (prec f) (a - b) 1)) (sym (pick f A B c i))
     (round_at f false (A - B) c (a - b) 1 (mul-pos (down_pos e) (down_pos d)) (pow_pos 0) (apart A B c a b (unit f) p q) h)
 
 -- the same of x - y
-pub minus_at : (f : Format) (x y : Float) (a b : ℕ) → Val f x false a → Val f y false b → b ≤ a → near_to (prec f) (a - b) 1 < limit f → Val f (sub f x y) false (near_to (prec f) (a - b) 1)
+pub minus_at : (f : Format) (x y : Float) (a b : ℕ) → InUnits f x false a → InUnits f y false b → b ≤ a → near_to (prec f) (a - b) 1 < limit f → InUnits f (sub f x y) false (near_to (prec f) (a - b) 1)
 unfolding sub
 minus_at f x y a b v w l h = sub_at f x (neg y) a b v (neg_at y false b (unit f) w) l h
 
 -- ---- to another format
 
 -- from g's units to f's
-pub narrow_at : (f g : Format) (x : Float) (s : Bool) (a : ℕ) → Val g x s a → near_to (prec f) (a * unit f) (unit g) < limit f → Val f (rounded f x) s (near_to (prec f) (a * unit f) (unit g))
+pub narrow_at : (f g : Format) (x : Float) (s : Bool) (a : ℕ) → InUnits g x s a → near_to (prec f) (a * unit f) (unit g) < limit f → InUnits f (rounded f x) s (near_to (prec f) (a * unit f) (unit g))
 narrow_at f g x s a v h =
-    subst (λ (z : Float). Val f z s (near_to (prec f) (a * unit f) (unit g))) (sym (rounded_at f x s a (unit g) (unit_pos g) v)) (round_units f s a (unit g) h)
+    subst (λ (z : Float). InUnits f z s (near_to (prec f) (a * unit f) (unit g))) (sym (rounded_at f x s a (unit g) (unit_pos g) v)) (round_units f s a (unit g) h)
 
--- ---- sizes up to b, which the format holds
+-- ---- a size up to q * 2 ^ j, which the format holds, stays so when it is rounded
 
 pub within : (f : Format) (n c q j : ℕ) → 0 < c → q < 2 ^ prec f → n ≤ q * 2 ^ j * c → near_to (prec f) n c ≤ q * 2 ^ j
 within f n c q j C Q h = le_trans (near_to_mono (prec f) n c (q * 2 ^ j) 1 (prec_pos f) C (pow_pos 0) (le_trans (le_of_eq (mul-one n)) h)) (le_of_eq (near_to_fixes (prec f) q j Q))
 
 -- ---- the order
 
-pub lt_of_values : (f : Format) (x y : Float) (a b : ℕ) → Val f x false a → Val f y false b → a < b → T (lt x y)
+pub lt_of_values : (f : Format) (x y : Float) (a b : ℕ) → InUnits f x false a → InUnits f y false b → a < b → T (lt x y)
 unfolding lt
 lt_of_values f nan y a b v w h = absurd v
 lt_of_values f (inf z) y a b v w h = absurd v

@@ -1,4 +1,4 @@
--- The worked examples, by computation: each side is a closed term, and both compute to the same value. What a call's checks make of record, lengths and nodes is not computed: by `Progressing` a query's number before 11 is that of its arguments, and a build's answer goes by its row number.
+-- The worked examples, by computation: where both sides are closed terms they compute to the same value. Lengths and nodes are not checked by it: since the record is in range (`in_range`), a query's number before 11 is that of its arguments, and a build's answer goes by its row number (`Progressing`).
 -- Two examples read entries of the profile, and of row 2 alone, whose values `Row2` has; the others read none, so none is computed. The longer list is the tally's (`is_tally`), whatever the lists held before.
 use mathlib.Core.Path.{◌≡◌, refl, sym, ap, ◌∙◌, fun_ext}
 use mathlib.Core.Bool.{Bool, true, false, cond, false≢true}
