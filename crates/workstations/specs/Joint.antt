@@ -97,6 +97,7 @@ pub record Joint : Type 0 where
   pub keeps : Keeps
 
 -- ---- no accepted start is in vain: what can be done with a table that was opened, whatever calls came before
+-- These statements, and these alone, suppose that the record's floats are values of binary32 (`RecordHolds`), as those of a record in the code are.
 
 -- (f) a build is refused exactly if its row number is N or more, and then with 7
 abbrev pub Builds : Type 0
