@@ -197,6 +197,35 @@ fn numbers_of_rows() {
     assert_eq!(table.build(2), Ok(()));
 }
 
+/// At every n and every m: a row below n is built, any other refused with 7; and with all rows built a query is refused for its
+/// arguments alone.
+#[test]
+fn started_tables() {
+    let sizes = (2..=128).map(|n| (n, 2)).chain((3..=64).map(|m| (2, m))).chain([(128, 64)]);
+    for (n, m) in sizes {
+        let mut table = Table::start(Record::new(n, m, 0.0, 1.33)).unwrap();
+        for row in 0..n {
+            assert_eq!(table.build(row), Ok(()), "{n} by {m}: row {row}");
+        }
+        for row in [n, n + 1, usize::MAX] {
+            assert_eq!(table.build(row), Err(Refusal::RowNumber), "{n} by {m}: row {row}");
+        }
+        let radius = WorldRadius(0.001);
+        for tint in [alike(0.0, 1.0), alike(0.1, 1.0), alike(1.0, 1.0), alike(1.0, 0.0), alike(0.0, 0.0)] {
+            assert!(table.sr(tint, radius).is_ok(), "{n} by {m}: {tint:?}");
+            assert!(table.pdf_sr(Channel::Green, tint, radius).is_ok(), "{n} by {m}: {tint:?}");
+            let drawn = table.sample_sr(Channel::Green, tint, 0.5, 1000);
+            assert!(matches!(drawn, Ok(_) | Err(Refusal::Exhausted)), "{n} by {m}: {tint:?}, {drawn:?}");
+        }
+        let bad = alike(-1.0, 1.0);
+        assert_eq!(table.sr(bad, radius), Err(Refusal::Coefficients));
+        assert_eq!(table.pdf_sr(Channel::Red, bad, radius), Err(Refusal::Coefficients));
+        assert_eq!(table.sample_sr(Channel::Red, bad, 0.5, 1).err(), Some(Refusal::Coefficients));
+        assert_eq!(table.sample_sr(Channel::Red, alike(1.0, 1.0), 2.0, 1).err(), Some(Refusal::Argument));
+        assert_eq!(table.sample_sr(Channel::Red, alike(1.0, 1.0), 0.5, 0).err(), Some(Refusal::Allowance));
+    }
+}
+
 #[test]
 fn bad_coefficients() {
     let table = Table::start(Record::new(3, 2, 0.0, 1.5)).unwrap();
