@@ -18,10 +18,10 @@ use Rattle.scattering.specs.Literals.{one}
 use Rattle.starting_nodes.specs.Nodes.{rho_sample}
 use Rattle.elementary.proofs.Signs.{neg_at}
 use Rattle.interpolation.proofs.Rising.{Rising}
-use Rattle.units.proofs.Near.{near_to, rest_off, OffBy}
+use Rattle.units.proofs.Near.{near_to, near_none, rest_off, OffBy}
 use Rattle.units.proofs.Sizes.{unit, unit_pos, limit, limit_pos, InUnits, within, div_at, minus_at}
 use Rattle.starting_nodes.proofs.Exponentials.{o, z, z_is, z_pos, o_under, most32, off32, exp_n, exp_at, exp_top, exp_apart, exp_quarter, Inside, inside_9}
-use Rattle.starting_nodes.proofs.Arguments.{zero_at, one_at, exponent, near_zero_of, argument, argument_zero, argument_at, argument_inside, argument_step, Range}
+use Rattle.starting_nodes.proofs.Arguments.{zero_at, one_at, exponent, argument, argument_zero, argument_at, argument_inside, argument_step, Range}
 
 -- ---- 1 - E
 
@@ -163,7 +163,7 @@ module _ (d : Float) (D c : ℕ) (v : InUnits binary32 d false D) (r : Range D c
       let y = one ⊖ exp (neg d) in
       let a : x ≡ neg (lit 0) = unique binary32 x (neg (lit 0)) true 0 (div-fits binary32 _ _) zero_fits.1 (subst (λ (k : ℕ). InUnits binary32 x true k) (argument_zero D c r.some) (argument_at D c 0 r (zero-le) d v)) minus_0_at in
       let p = C_pos (rest_n D) C_above (rest_top D whole) in
-      let e = near_zero_of (0 * o) (rest_n D) p (zero-mul o) in
+      let e = near_none (0 * o) (rest_n D) p (zero-mul o) in
       let b : (one ⊖ exp x) ⊘ y ≡ lit 0 ⊘ y = ap (λ (e : Float). (one ⊖ exp e) ⊘ y) a ∙ ap (λ (e : Float). e ⊘ y) one_less_one in
       b ∙ unique binary32 (lit 0 ⊘ y) (lit 0) false 0 (div-fits binary32 _ _) zero_fits.0
       (subst (λ (k : ℕ). InUnits binary32 (lit 0 ⊘ y) false k) e

@@ -15,7 +15,7 @@ use lib.Ieee.Exact.{HasValue}
 use Rattle.elementary.specs.Notation.{◌⊖◌, ◌⊗◌, ◌⊘◌, lit}
 use Rattle.scattering.specs.Literals.{one}
 use Rattle.elementary.proofs.Signs.{neg_at}
-use Rattle.units.proofs.Near.{near_to, near_to_off, near_to_fixes, near_zero, OffBy}
+use Rattle.units.proofs.Near.{near_to, near_to_off, near_to_fixes, near_none, OffBy}
 use Rattle.units.proofs.Sizes.{unit, unit_pos, limit, InUnits, within, mul_at, div_at, minus_at}
 use Rattle.starting_nodes.proofs.Exponentials.{o, z, z_is, Inside}
 
@@ -75,10 +75,6 @@ smaller a b h = mul-lt-mul_of_pos_right h (unit_pos binary32)
 
 -- ---- the argument
 
--- a fraction of nothing
-pub near_zero_of : (n c : ℕ) → 0 < c → n ≡ 0 → near_to 24 n c ≡ 0
-near_zero_of n c C e = ap (λ (k : ℕ). near_to 24 k c) e ∙ near_zero c C
-
 abbrev pub exponent : Float → ℕ → ℕ → Float
 exponent d n i = neg d ⊗ of_int binary32 (pos i) ⊘ (of_int binary32 (pos n) ⊖ one)
 
@@ -91,8 +87,8 @@ argument D c i = near_to 24 (multiple D i * o) (c * o)
 pub argument_zero : (D c : ℕ) → 1 ≤ c → argument D c 0 ≡ 0
 unfolding argument multiple
 argument_zero D c C =
-    let a : near_to 24 (D * (0 * o)) o ≡ 0 = near_zero_of (D * (0 * o)) o (unit_pos binary32) (omega arith) in
-    near_zero_of (near_to 24 (D * (0 * o)) o * o) (c * o) (mul-pos C (unit_pos binary32)) (ap (λ (k : ℕ). k * o) a ∙ zero-mul o)
+    let a : near_to 24 (D * (0 * o)) o ≡ 0 = near_none (D * (0 * o)) o (unit_pos binary32) (omega arith) in
+    near_none (near_to 24 (D * (0 * o)) o * o) (c * o) (mul-pos C (unit_pos binary32)) (ap (λ (k : ℕ). k * o) a ∙ zero-mul o)
 
 -- d from 2 to 8, and i up to c, from 1 to 1,023
 pub record Range (D c : ℕ) : Type 0 where

@@ -8,7 +8,7 @@ use Rattle.interpolation.specs.Nodes.{nodes_ok}
 use Rattle.scattering.specs.Literals.{two}
 use Rattle.starting_nodes.specs.Nodes.{«0·0025», eight, radius_sample, rho_sample}
 
--- 1.01, and what its decimal rounds to
+-- 1.01, by its bits; proofs/Literals.antt shows that it is what its decimal rounds to
 abbrev pub «1·01» : Float
 «1·01» = lit 0x3f81_47ae
 

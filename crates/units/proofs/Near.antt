@@ -174,6 +174,9 @@ near_fixes = near_to_fixes 24
 pub near_zero : (c : ℕ) → 0 < c → near 0 c ≡ 0
 near_zero c C = near_same 0 c 0 1 C (pow_pos 0) (sym (zero-mul c)) ∙ near_fixes 0 0 (pow_pos 24)
 
+pub near_none : (n c : ℕ) → 0 < c → n ≡ 0 → near n c ≡ 0
+near_none n c C e = ap (λ (k : ℕ). near k c) e ∙ near_zero c C
+
 -- v is n, up to n / 2 ^ 24
 abbrev pub Error : ℕ → ℕ → Type 0
 Error n v = (v * 16777216 ≤ n * 16777216 + n) × (n * 16777216 ≤ v * 16777216 + n)

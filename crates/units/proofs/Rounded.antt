@@ -4,10 +4,9 @@
 use mathlib.Core.Path.{◌≡◌, refl, sym, ap, ◌∙◌, subst}
 use mathlib.Core.Bool.{Bool, true, false, not, cond, true≢false, false≢true}
 use Prim.Native.Nat.{ℕ, ◌+◌, ◌-◌, ◌*◌, ◌^◌, ◌≤◌, ◌<◌}
-use native.Mathlib.Nat.{le_trans, le_of_eq, le_of_lt, lt_of_lt_of_le, lt_of_not-le, lt_irrefl, zero-mul, mul-one, mul_comm, mul_assoc, mul_right_comm, mul-mul-mul_comm, mul-pos, mul-sub, add-mul, mul-le-mul_right, le_of_mul-le-mul_right}
+use native.Mathlib.Nat.{le_trans, le_of_eq, le_of_lt, lt_of_lt_of_le, lt_of_not-le, lt_irrefl, zero-mul, mul-one, mul_comm, mul_assoc, mul_right_comm, mul-mul-mul_comm, mul-pos, add-mul, mul-le-mul_right, le_of_mul-le-mul_right}
 use native.Mathlib.Omega.{arith}
 use lib.Dec.{T, ltb, eqb, ltb→lt, nltb→le, eqb→eq, not_T}
-use lib.Pow.{pow_pos}
 use lib.IntN.{ℤ}
 use lib.Ieee.{Float, nan, inf, fin, binary32, up, down, unlike, odd, units, round, sum, add, mul, div, fits}
 use lib.Ieee.Bits.{cond_no}
@@ -18,8 +17,8 @@ use lib.Ieee.Scale.{finite}
 use Rattle.elementary.specs.Units.{mag}
 use Rattle.elementary.proofs.Magnitude.{mag_at, mag_exact}
 use Rattle.units.specs.Units.{Number, one, plus, minus}
-use Rattle.units.proofs.Near.{near, near_to, near_same, near_zero}
-use Rattle.units.proofs.Sizes.{unit, limit, limit_pos, round_units}
+use Rattle.units.proofs.Near.{near, near_to, near_same, near_none}
+use Rattle.units.proofs.Sizes.{unit, limit, limit_pos, round_units, apart}
 
 -- from 2 ^ 128 on a value is an infinity: that number in units
 abbrev pub cap : ℕ
@@ -83,12 +82,9 @@ value z p m w r W P M = subst (λ (x : Float). Value x (near p w) (near m w)) (s
         let f : near (a * one) c ≡ near n w = near_same (a * one) c n w r.den_pos W e in
         subst (λ (k : ℕ). HasValue (round binary32 s a c) s k one) f (round_value s a c (subst (λ (k : ℕ). k < cap) (sym f) N))
 
-    none : (n : ℕ) → n ≡ 0 → near n w ≡ 0
-    none n o = ap (λ (k : ℕ). near k w) o ∙ near_zero w W
-
     go : (s : Bool) → a * one * w ≡ cond s m p * c → cond s p m ≡ 0 → Value (round binary32 s a c) (near p w) (near m w)
-    go true e o = value_of (round binary32 true a c) true (near p w) (near m w) (at true m e M) (none p o)
-    go false e o = value_of (round binary32 false a c) false (near p w) (near m w) (at false p e P) (none m o)
+    go true e o = value_of (round binary32 true a c) true (near p w) (near m w) (at true m e M) (near_none p w W o)
+    go false e o = value_of (round binary32 false a c) false (near p w) (near m w) (at false p e P) (near_none m w W o)
 
 pub cap_pos : 0 < cap
 cap_pos = limit_pos binary32
@@ -98,12 +94,12 @@ under z p m w r W t = go r.sign r.same r.other (round_under r.sign r.num r.den (
   where
     go : (s : Bool) → r.num * one * w ≡ cond s m p * r.den → cond s p m ≡ 0 → near (r.num * one) r.den < cap → (near p w < cap) × (near m w < cap)
     go true e o h = (
-      subst (λ (x : ℕ). x < cap) (sym (ap (λ (x : ℕ). near x w) o ∙ near_zero w W)) cap_pos,
+      subst (λ (x : ℕ). x < cap) (sym (near_none _ w W o)) cap_pos,
       subst (λ (x : ℕ). x < cap) (near_same (r.num * one) r.den m w r.den_pos W e) h,
     )
     go false e o h = (
       subst (λ (x : ℕ). x < cap) (near_same (r.num * one) r.den p w r.den_pos W e) h,
-      subst (λ (x : ℕ). x < cap) (sym (ap (λ (x : ℕ). near x w) o ∙ near_zero w W)) cap_pos,
+      subst (λ (x : ℕ). x < cap) (sym (near_none _ w W o)) cap_pos,
     )
 
 -- ---- a value that binary32 holds is a whole number of units
@@ -113,14 +109,6 @@ unfolding one
 whole s m e t = (mag_exact s m e t).1
 
 -- ---- sums
-
--- a fraction of two numbers that are X and Y units of C: their difference is X - Y units
-apart : (a b c x y : ℕ) → a * one ≡ x * c → b * one ≡ y * c → (a - b) * one ≡ (x - y) * c
-apart a b c x y e f =
-    mul_comm (a - b) one ∙ mul-sub one a b ∙ go (one * a) (one * b) (c * x) (c * y) (mul_comm one a ∙ e ∙ mul_comm x c) (mul_comm one b ∙ f ∙ mul_comm y c) ∙ sym (mul-sub c x y) ∙ mul_comm c (x - y)
-  where
-    go : (p q r s : ℕ) → p ≡ r → q ≡ s → p - q ≡ r - s
-    go p q r s e f = omega arith
 
 pub ordered : (a b c x y : ℕ) → 0 < c → a * one ≡ x * c → b * one ≡ y * c → a ≤ b → x ≤ y
 ordered a b c x y C e f h = le_of_mul-le-mul_right (le_trans (le_of_eq (sym e)) (le_trans (mul-le-mul_right one h) (le_of_eq f))) C
@@ -142,24 +130,24 @@ sum_rounded false true a b c x y C e f = go (ltb a b) (ltb→lt a b) (nltb→le 
     go : (d : Bool) → (T d → a < b) → (T (not d) → b ≤ a) → Rounded (cond d (round binary32 true (b - a) c) (round binary32 false (a - b) c)) (x + 0 - (0 + y)) (0 + y - (x + 0)) 1
     go true h k =
         let l = ordered a b c x y C e f (le_of_lt (h tt)) in
-        whole_of true (b - a) c (x + 0 - (0 + y)) (0 + y - (x + 0)) (y - x) C (apart b a c y x f e) (omega arith) (omega arith)
+        whole_of true (b - a) c (x + 0 - (0 + y)) (0 + y - (x + 0)) (y - x) C (apart b a c y x one f e) (omega arith) (omega arith)
     go false h k =
         let l = ordered b a c y x C f e (k tt) in
-        whole_of false (a - b) c (x + 0 - (0 + y)) (0 + y - (x + 0)) (x - y) C (apart a b c x y e f) (omega arith) (omega arith)
+        whole_of false (a - b) c (x + 0 - (0 + y)) (0 + y - (x + 0)) (x - y) C (apart a b c x y one e f) (omega arith) (omega arith)
 sum_rounded true false a b c x y C e f = go (ltb a b) (ltb→lt a b) (nltb→le a b) (ltb b a) (nltb→le b a)
   where
     go : (d : Bool) → (T d → a < b) → (T (not d) → b ≤ a) → (g : Bool) → (T (not g) → a ≤ b)
         → Rounded (cond d (round binary32 false (b - a) c) (round binary32 g (a - b) c)) (0 + y - (x + 0)) (x + 0 - (0 + y)) 1
     go true h k g i =
         let l = ordered a b c x y C e f (le_of_lt (h tt)) in
-        whole_of false (b - a) c (0 + y - (x + 0)) (x + 0 - (0 + y)) (y - x) C (apart b a c y x f e) (omega arith) (omega arith)
+        whole_of false (b - a) c (0 + y - (x + 0)) (x + 0 - (0 + y)) (y - x) C (apart b a c y x one f e) (omega arith) (omega arith)
     go false h k true i =
         let l = ordered b a c y x C f e (k tt) in
-        whole_of true (a - b) c (0 + y - (x + 0)) (x + 0 - (0 + y)) (x - y) C (apart a b c x y e f) (omega arith) (omega arith)
+        whole_of true (a - b) c (0 + y - (x + 0)) (x + 0 - (0 + y)) (x - y) C (apart a b c x y one e f) (omega arith) (omega arith)
     go false h k false i =
         let l = ordered b a c y x C f e (k tt) in
         let n = ordered a b c x y C e f (i tt) in
-        whole_of false (a - b) c (0 + y - (x + 0)) (x + 0 - (0 + y)) (x - y) C (apart a b c x y e f) (omega arith) (omega arith)
+        whole_of false (a - b) c (0 + y - (x + 0)) (x + 0 - (0 + y)) (x - y) C (apart a b c x y one e f) (omega arith) (omega arith)
 
 pub add_rounded : (x y : Float) → Number x → Number y
     → Rounded (add binary32 x y) (plus x + plus y - (minus x + minus y)) (minus x + minus y - (plus x + plus y)) 1

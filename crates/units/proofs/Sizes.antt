@@ -84,10 +84,10 @@ pick f a b c h = go (ltb a b) (ltb→lt a b)
     go true k = absurd (not-le_of_lt (k tt) h)
     go false k = refl
 
--- A and B over c are a and b units
-apart : (A B c a b u : ℕ) → A * u ≡ a * c → B * u ≡ b * c → (A - B) * (1 * u) ≡ (a - b) * c
+-- A and B over c are a and b units: their difference is a - b
+pub apart : (A B c a b u : ℕ) → A * u ≡ a * c → B * u ≡ b * c → (A - B) * u ≡ (a - b) * c
 apart A B c a b u p q =
-    ap (λ (k : ℕ). (A - B) * k) (one-mul u) ∙ spread A B u ∙ ap (λ (k : ℕ). k - B * u) p ∙ ap (λ (k : ℕ). a * c - k) q ∙ sym (spread a b c)
+    spread A B u ∙ ap (λ (k : ℕ). k - B * u) p ∙ ap (λ (k : ℕ). a * c - k) q ∙ sym (spread a b c)
   where
     spread : (x y w : ℕ) → (x - y) * w ≡ x * w - y * w
     spread x y w = mul_comm (x - y) w ∙ mul-sub w x y ∙ ap (λ (k : ℕ). k - w * y) (mul_comm w x) ∙ ap (λ (k : ℕ). x * w - k) (mul_comm w y)
@@ -111,7 +111,7 @@ sub_at f (fin false m e) (fin true n d) a b v w l h =
     let q : B * unit f ≡ b * c = over (n * up d) (down e) b (down d) (unit f) w.1 ∙ ap (λ (k : ℕ). b * k) (mul_comm (down d) (down e)) in
     let i : B ≤ A = le_of_mul-le-mul_right (le_trans (le_of_eq q) (le_trans (mul-le-mul_right c l) (le_of_eq (sym p)))) (unit_pos f) in
     subst (λ (z : Float). InUnits f z false (near_to (prec f) (a - b) 1)) (sym (pick f A B c i))
-    (round_at f false (A - B) c (a - b) 1 (mul-pos (down_pos e) (down_pos d)) (pow_pos 0) (apart A B c a b (unit f) p q) h)
+    (round_at f false (A - B) c (a - b) 1 (mul-pos (down_pos e) (down_pos d)) (pow_pos 0) (ap (λ (k : ℕ). (A - B) * k) (one-mul (unit f)) ∙ apart A B c a b (unit f) p q) h)
 
 -- the same of x - y
 pub minus_at : (f : Format) (x y : Float) (a b : ℕ) → InUnits f x false a → InUnits f y false b → b ≤ a → near_to (prec f) (a - b) 1 < limit f → InUnits f (sub f x y) false (near_to (prec f) (a - b) 1)
