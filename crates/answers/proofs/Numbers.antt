@@ -1,4 +1,4 @@
--- Whether a call was refused, by the number alone: a value has the number 0, and a refusal of document 01 has a number above 0. An answer of which that is true is `Numbered`. Values are, and refusals by a number above 0; and where what a call answers after its checks is, so is what it answers. Assumes nothing.
+-- Whether a call was refused, by the number alone: a value has the number 0, and a refusal a number above 0. An answer of which that is true is `Numbered`. Values are, and refusals by a number above 0; and where what a call answers after its checks is, so is what it answers. Assumes nothing.
 use mathlib.Core.Path.{◌≡◌, refl}
 use mathlib.Core.Bool.{true, false}
 use mathlib.Core.List.{List}

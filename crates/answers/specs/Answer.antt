@@ -1,7 +1,7 @@
--- What a call of document 01 answers, and what it leaves in a lent list.
+-- What a call answers, and what it leaves in a lent list (specification, section 4.1).
 use Rattle.std.specs.Prelude.{ℕ, zero, suc, Bool, true, false, List, [], ℤ, Float}
 
--- An answer as document 01 gives it: a refusal, with its number alone; or a value, with the number 0, and its floats and whole numbers in document 01's order. So no refusal is a value, whatever its number.
+-- An answer: a refusal, with its number alone; or a value, with the number 0, and its floats and whole numbers, in the order in which the specification names them. So no refusal is a value, whatever its number.
 pub record Answer : Type 0 where
   pub refused : Bool
   pub number : ℕ

@@ -1,4 +1,4 @@
--- How a call's checks give the number of its refusal. Each check is a definition of its own, beside the calls that it concerns.
+-- How a call's checks give the number of its refusal (specification, section 4.3). Each check is a definition of its own, beside the calls that it concerns.
 use Rattle.std.specs.Prelude.{ℕ, zero, suc, Bool, cond, List, [], ◌∷◌}
 
 -- a check gives its number, unless the test passes, and then 0

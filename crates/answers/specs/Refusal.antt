@@ -1,4 +1,4 @@
--- What the code's answers stand for: a `Refusal` by its number, the row of document 01's table, and the `Result` of checks or of a call.
+-- What the code's answers stand for: a `Refusal` by its number, the row of the table of refusals (specification, section 4.2), and the `Result` of checks or of a call.
 use Rattle.std.specs.Prelude.{ℕ, Result, Ok, Err}
 use Rattle.answers.specs.Answer.{Answer, refusal}
 use Rattle.answers.specs.declared.refusal.Refusal.{Refusal}

@@ -1,6 +1,6 @@
-// What a call of document 01 answers, and why it is refused. A check gives `Ok`, or the `Refusal` of
-// its row in document 01's table; checks made one after the other with `?` give that of the first
-// that refuses. `specs/` has the definitions and `proofs/` the laws.
+// What a call answers, and why it is refused (specification, section 4). A check gives `Ok`, or the
+// `Refusal` of its row in the table of refusals; checks made one after the other with `?` give that
+// of the first that refuses. `specs/` has the definitions and `proofs/` the laws.
 #![tactic(auto)]
 
 pub mod refusal;

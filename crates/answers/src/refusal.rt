@@ -6,7 +6,7 @@ ghost use Rattle.answers.specs.Refusal as Spec;
 use std::error::Error;
 use std::fmt;
 
-// The rows of document 01's table of refusals, in its order.
+// The rows of the table of refusals (specification, section 4.2), in its order.
 #[derive(Clone, Copy, Debug, PartialEq, Eq)]
 pub enum Refusal {
     // The number of rows, or of nodes in the first list, is out of range.

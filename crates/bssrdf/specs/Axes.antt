@@ -1,4 +1,4 @@
--- Where a channel lies on the two axes of a table: its weights among the albedo nodes, and among the radius nodes.
+-- Where a channel lies on the two axes of a table (specification, section 10.3): its weights among the albedo nodes, and among the radius nodes.
 use Rattle.std.specs.Prelude.{ℕ, Bool, cond, List, [], ◌∷◌, map, get_or, Float, Option, Some, None}
 use Rattle.std.specs.Float.{nan}
 use Rattle.interpolation.specs.Weights.{catmull_rom_weights, four_at, list_of_four, offset_of}

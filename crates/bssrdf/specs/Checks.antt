@@ -1,4 +1,4 @@
--- The checks of document 01's table that concern queries alone: 8, 11 and 12. 1 to 6 are those of `table`, and 9 and 10 those of `interpolation`; 13 is an answer of its drawing.
+-- The checks of the table of refusals that concern queries alone (specification, sections 4.2 and 4.3): 8, 11 and 12. 1 to 6 are those of `table`, and 9 and 10 those of `interpolation`; 13 is an answer of its drawing.
 use Rattle.std.specs.Prelude.{ℕ, Bool, ◌&&◌, not, List, [], ◌∷◌, Float}
 use Rattle.std.specs.Float.Ieee.{le}
 use Rattle.elementary.specs.Notation.{lit}

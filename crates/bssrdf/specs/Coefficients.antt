@@ -1,4 +1,4 @@
--- What a query is asked with (document 01, "Asking for radiance and density"): sigma_t and the albedo of each channel, as the constructor of `TabulatedBssrdf` in bssrdf.rs has them, and the two kinds of radius.
+-- What a query is asked with (specification, sections 10.1 and 10.2): sigma_t and the albedo of each channel, as the constructor of `TabulatedBssrdf` in bssrdf.rs has them, and the two kinds of radius.
 use Rattle.std.specs.Prelude.{cond, Float}
 use Rattle.std.specs.Float.Ieee.{eq}
 use Rattle.elementary.specs.Notation.{◌⊗◌, ◌⊘◌, lit}

@@ -1,4 +1,4 @@
--- The offered call `pdf_sr`, of `TabulatedBssrdf` in bssrdf.rs, in its order of operations.
+-- The offered call `pdf_sr`, of `TabulatedBssrdf` in bssrdf.rs, in its order of operations (specification, section 10.6).
 use Rattle.std.specs.Prelude.{ℕ, cond, List, [], ◌∷◌, ℤ, Float, Option, Some, None, Result}
 use Rattle.std.specs.Float.Ieee.{eq}
 use Rattle.elementary.specs.Notation.{◌⊕◌, ◌⊗◌, ◌⊘◌, lit}

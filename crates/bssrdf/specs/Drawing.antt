@@ -1,4 +1,4 @@
--- The offered call `sample_sr`, of `TabulatedBssrdf` in bssrdf.rs, with an allowance of rounds (document 01, "Drawing a radius").
+-- The offered call `sample_sr`, of `TabulatedBssrdf` in bssrdf.rs, with an allowance of rounds (specification, section 10.7).
 use Rattle.std.specs.Prelude.{ℕ, cond, [], ◌∷◌, pos, Float, Option, Some, None, Result}
 use Rattle.std.specs.Float.Ieee.{eq, neg}
 use Rattle.elementary.specs.Notation.{◌⊘◌, lit}

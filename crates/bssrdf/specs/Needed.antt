@@ -1,4 +1,4 @@
--- The rows that a query needs (document 01, "Asking for radiance and density" and "Drawing a radius"): those of nonzero albedo weight, whatever the radius weights are; a channel that is outside needs none.
+-- The rows that a query needs (specification, section 10.3): those of nonzero albedo weight, whatever the radius weights are; a channel that is outside needs none.
 use Rattle.std.specs.Prelude.{ℕ, Bool, true, false, cond, ◌&&◌, ◌||◌, List, [], ◌∷◌, ◌++◌, eqb, ℤ, get_or, Float, Option, Some, None}
 use Rattle.std.specs.Float.Ieee.{eq}
 use Rattle.elementary.specs.Notation.{lit}

@@ -1,4 +1,4 @@
--- A query as document 01 answers it ("Asking for radiance and density", "Drawing a radius"): the checks before 11, then whether the rows that it needs are built, then the rest.
+-- How a query is answered (specification, section 10.4): the checks before 11, then whether the rows that it needs are built, then the rest.
 use Rattle.std.specs.Prelude.{ℕ, List, [], ◌∷◌}
 use Rattle.answers.specs.Answer.{Answer, answered}
 use Rattle.answers.specs.Checks.{first_of}

@@ -1,4 +1,4 @@
--- The offered call `sr`, of `TabulatedBssrdf` in bssrdf.rs, in its order of operations.
+-- The offered call `sr`, of `TabulatedBssrdf` in bssrdf.rs, in its order of operations (specification, section 10.5).
 use Rattle.std.specs.Prelude.{ℕ, ◌+◌, ◌*◌, Bool, cond, false, List, [], ℤ, get_or, Float, Option, Some, None, Result}
 use Rattle.std.specs.Float.{nan, inf}
 use Rattle.std.specs.Float.Ieee.{eq}

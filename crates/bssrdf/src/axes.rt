@@ -50,8 +50,8 @@ pub fn are_inside(
     ]
 }
 
-// The weights of three values, each in its interval: arrays of three, since document 01 has the weights
-// in one.
+// The weights of three values, each in its interval: an array of three arrays of four (specification,
+// section 15).
 #[tactic(auto, unfolding(crate::specs::Axes::three_weights))]
 pub fn three_weights(nodes: &[f32], xs: [f32; 3], at: [usize; 3]) -> [[f32; 4]; 3]
     requires { (k : ℕ) → k < 3 → get_or at k 0 + 1 < length nodes.now }
@@ -65,7 +65,7 @@ pub fn three_weights(nodes: &[f32], xs: [f32; 3], at: [usize; 3]) -> [[f32; 4]; 
 }
 
 // Where three values lie on an axis: the interval of each, and its four weights. The weights are the
-// array of three arrays of four that document 01 asks for.
+// array of three arrays of four of the specification's section 15.
 #[derive(Clone, Copy)]
 pub struct Axis {
     pub at: [usize; 3],

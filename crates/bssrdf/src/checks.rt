@@ -1,5 +1,5 @@
-// The checks of document 01's table that concern queries alone, and the checks that a query makes
-// before 11.
+// The checks of the table of refusals that concern queries alone, and the checks that a query makes
+// before 11 (specification, sections 4.2 and 4.3).
 ghost use Rattle.std.specs.Prelude.{◌&&◌, [], ◌∷◌, ◌≡◌, ◌≤◌, length, IfOk};
 ghost use Rattle.answers.specs.Checks.{first_of};
 ghost use Rattle.answers.specs.Refusal.{number_of};

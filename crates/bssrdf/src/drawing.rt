@@ -13,8 +13,8 @@ use interpolation::weights::is_within;
 use scattering::RGBEnum;
 use table::Table;
 
-// A radius drawn and the rounds made. The radius is -1, which document 01 asks for, where sigma_t is 0
-// and nothing can be drawn.
+// A radius drawn and the rounds made. The radius is -1, as in the Rust, where sigma_t is 0 and
+// nothing can be drawn.
 #[derive(Clone, Copy, Debug, PartialEq)]
 pub struct Drawn {
     pub radius: f32,

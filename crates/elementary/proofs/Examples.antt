@@ -1,4 +1,4 @@
--- The values of Q and E that document 01 lists, and L at 1/2, by computation. Assumes nothing.
+-- The values of Q and E among the proved ones (specification, section 13.2), and L at 1/2, by computation. Assumes nothing.
 use Rattle.std.proofs.Common.{◌≡◌, false, pos, negsuc, refl}
 use lib.Ieee.{fin, size, units, round, is_nan, neg, add, sub, mul, div, lt, le, of_int, of_bits}
 use Rattle.elementary.specs.Notation.{lit}

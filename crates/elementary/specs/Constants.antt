@@ -1,4 +1,4 @@
--- The constants of the source, by their bits. `proofs/Literals.antt` shows that each is what its decimal literal rounds to.
+-- The constants of the source, by their bits (specification, section 7.6). `proofs/Literals.antt` shows that each is what its decimal literal rounds to.
 use Rattle.std.specs.Prelude.{Float}
 use Rattle.elementary.specs.Notation.{lit}
 

@@ -1,4 +1,4 @@
--- Between binary32 and binary64: the Rust's `as f64` and `as f32`.
+-- Between binary32 and binary64 (specification, section 7.5): the Rust's `as f64` and `as f32`.
 use Rattle.std.specs.Prelude.{◌*◌, Float}
 use Rattle.std.specs.Float.{Format, nan, inf, fin, binary32}
 use Rattle.std.specs.Float.Ieee.{up, down, round}

@@ -1,4 +1,4 @@
--- E of document 01, the exponential: ten terms of the series of e ^ (x / 256) in binary64, squared eight times, and rounded to binary32.
+-- E, the exponential (specification, section 7.3): ten terms of the series of e ^ (x / 256) in binary64, squared eight times, and rounded to binary32.
 use Rattle.std.specs.Prelude.{ℕ, zero, suc, false, cond, is_nan, Float}
 use Rattle.std.specs.Float.{nan, inf}
 use Rattle.std.specs.Float.Ieee.{neg, lt, le}

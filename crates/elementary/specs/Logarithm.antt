@@ -1,4 +1,4 @@
--- L of document 01, the natural logarithm of an x from 2 ^ -126, the smallest normal value, up to 1: with x = m * 2 ^ e and 1 ≤ m < 2, a series in (m - 1) / (m + 1), in binary64, rounded to binary32.
+-- L, the natural logarithm (specification, section 7.4), of an x from 2 ^ -126, the smallest normal value, up to 1: with x = m * 2 ^ e and 1 ≤ m < 2, a series in (m - 1) / (m + 1), in binary64, rounded to binary32.
 use Rattle.std.specs.Prelude.{ℕ, zero, suc, ◌+◌, ◌-◌, ◌*◌, ◌^◌, false, cond, ◌&&◌, Float}
 use Rattle.std.specs.Float.{nan, binary64}
 use Rattle.std.specs.Float.Ieee.{size, round, neg, lt, le}
@@ -35,6 +35,6 @@ significand a = round binary64 false a (2 ^ (size a - 1))
 abbrev pub exponent : ℕ → Float
 exponent a = neg (whole64 (150 - size a))
 
--- from 2 ^ -126 up to 1, and a NaN elsewhere, where document 01 gives no value
+-- from 2 ^ -126 up to 1, and a NaN elsewhere, where L has no value
 unfoldable pub ln : Float → Float
 ln x = cond (le (lit 0x0080_0000) x && lt x (lit 0x3f80_0000)) (ln_series (significand (mag x)) (exponent (mag x))) nan

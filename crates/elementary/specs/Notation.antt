@@ -1,4 +1,4 @@
--- The notation of every definition: the operations of IEEE 754 with infix names, each rounded once to the nearest value, ties to even, and literals by their bit patterns.
+-- The notation of every definition (specification, section 2; a comment that cites the specification means docs/SPECIFICATION.md): the operations of IEEE 754 with infix names, each rounded once to the nearest value, ties to even, and literals by their bit patterns.
 -- `Float` is the logic's type of values: `nan`, `inf s`, or `fin s m e`, which is m * 2 ^ e, negative where s is true. There is one `nan`, and +0 and -0 differ,
 -- so an equation `x ≡ y` of Floats says "the same bits, any NaN equal to any NaN". One type serves binary32 and binary64.
 use Rattle.std.specs.Prelude.{ℕ, ◌^◌, false, pos, from_bits, Float}

@@ -1,4 +1,4 @@
--- Q of document 01, the square root: the binary32 value nearest to the exact root, by comparing squares of whole numbers.
+-- Q, the square root (specification, section 7.2): the binary32 value nearest to the exact root, by comparing squares of whole numbers.
 use Rattle.std.specs.Prelude.{◌≡◌, ℕ, zero, suc, ◌+◌, ◌-◌, ◌*◌, ◌/◌, ◌^◌, ◌<◌, ◌≤◌, true, false, cond, T, nat_lt, Float}
 use Rattle.std.specs.Float.{nan, inf, fin, binary32}
 use Rattle.std.specs.Float.Ieee.{size, units}

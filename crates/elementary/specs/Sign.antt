@@ -1,4 +1,4 @@
--- The sign of a value: `abs` of the Rust's `f32`, and document 01's `max` of 0 and v.
+-- The sign of a value (specification, section 7.1): `abs` of the Rust's `f32`, and the maximum of 0 and v.
 use Rattle.std.specs.Prelude.{false, cond, Float}
 use Rattle.std.specs.Float.{nan, inf, fin}
 use Rattle.std.specs.Float.Ieee.{lt}

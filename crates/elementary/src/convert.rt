@@ -66,8 +66,8 @@ fn signed(sign: u64, r: u64) -> f32
 }
 
 // The `f32` nearest to x, a tie to the even one. From halfway past the largest one on it is an
-// infinity. It is worked out here, and not by the library's conversion, since document 01 asks for
-// that (docs/DECISIONS.md).
+// infinity. It is worked out here, and not by the library's conversion (specification, section 7.5;
+// docs/DECISIONS.md).
 pub fn narrow(x: f64) -> f32
     ensures { result ≡ Convert.narrow x }
 {

@@ -1,6 +1,6 @@
-// The elementary functions under the tables: document 01's stand-ins Q, E and L, the sign, and the
-// two float formats. Each is total and has a contract that is an equation with a definition of
-// specs/, over the logic's account of IEEE 754.
+// The elementary functions under the tables: the stand-ins Q, E and L, the sign, and the two float
+// formats (specification, section 7). Each is total and has a contract that is an equation with a
+// definition of specs/, over the logic's account of IEEE 754.
 #![tactic(auto)]
 
 pub mod bits;

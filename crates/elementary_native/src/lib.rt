@@ -1,5 +1,5 @@
 // The elementary functions for C: oracle/elementary links them, to compare them with the hardware
-// and with document 01's formulas on every `f32`, and to time them.
+// and with the specification's formulas on every `f32`, and to time them.
 #![tactic(auto)]
 
 ghost use Rattle.std.specs.Prelude.{◌≡◌, cond, map, eqb, length};

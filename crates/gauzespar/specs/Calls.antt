@@ -1,4 +1,4 @@
--- The nine calls of the facade, each by the call of document 01 that it makes. What the facade adds are its output lists, whose lengths are checked with those of the other lists, and the channel as a number.
+-- The nine calls of the facade, each by the call that it makes (specification, section 14). What the facade adds are its output lists, whose lengths are checked with those of the other lists, and the channel as a number.
 use Rattle.std.specs.Prelude.{◌&&◌, List, [], ◌∷◌, ℕ, zero, suc, eqb, Float, length}
 use Rattle.answers.specs.Answer.{Answer, refusal}
 use Rattle.answers.specs.Checks.{first_of}
@@ -26,7 +26,7 @@ coefficients_of ar ag ab sr sg sb = record { sigma_a = rgb ar ag ab; sigma_s = r
 abbrev pub radius_of : Float → WorldRadius
 radius_of radius = record { 0 = radius }
 
--- the number of a channel that is none of the three: document 01's channel is an enum, and has no number for it
+-- the number of a channel that is none of the three (specification, section 14.3): where a channel is an enum, no refusal is needed for it
 unfoldable pub no_channel : ℕ
 no_channel = 100
 

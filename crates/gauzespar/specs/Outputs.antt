@@ -1,4 +1,4 @@
--- What a call of the facade returns, and what it leaves in its output lists, by the answer (`answers`) of the call that it makes.
+-- What a call of the facade returns, and what it leaves in its output lists (specification, section 14.2), by the answer (`answers`) of the call that it makes.
 use Rattle.std.specs.Prelude.{◌≡◌, Bool, true, false, List, [], ◌∷◌, ◌++◌, map, ℕ, ℤ, pos, length, drop}
 use Rattle.answers.specs.Answer.{Answer, refusal, value, answered, written}
 use Rattle.answers.specs.Checks.{first_of}

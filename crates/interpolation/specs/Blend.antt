@@ -1,4 +1,4 @@
--- `interpolate` of `sample_catmull_rom_2d`: a column of a table, blended over four rows of which those of weight zero are not read. And the search over a blended CDF.
+-- `interpolate` of `sample_catmull_rom_2d` (specification, section 9.6): a column of a table, blended over four rows of which those of weight zero are not read. And the search over a blended CDF.
 use Rattle.std.specs.Prelude.{ℕ, suc, ◌+◌, ◌-◌, ◌*◌, ◌≤◌, ◌≡◌, Bool, cond, false, List, ℤ, pos, negsuc, get_or, length, Float}
 use Rattle.std.specs.Float.{nan}
 use Rattle.std.specs.Float.Ieee.{eq, le}

@@ -1,4 +1,4 @@
--- The checks of document 01's table that concern calls on a caller's own lists. Each gives its number, or 0 where it refuses nothing.
+-- The checks of the table of refusals that concern calls on a caller's own lists (specification, section 4.2). Each gives its number, or 0 where it refuses nothing.
 use Rattle.std.specs.Prelude.{ℕ, ◌&&◌, List, leb, eqb, Float}
 use Rattle.std.specs.Float.Ieee.{le}
 use Rattle.elementary.specs.Notation.{lit}

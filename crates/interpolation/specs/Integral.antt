@@ -1,4 +1,4 @@
--- `integrate_catmull_rom` of interpolation.rs over one row, in its order of operations.
+-- `integrate_catmull_rom` of interpolation.rs over one row, in its order of operations (specification, section 9.5).
 use Rattle.std.specs.Prelude.{ℕ, ◌+◌, ◌-◌, List, get_or, length, Float}
 use Rattle.std.specs.Float.{nan}
 use Rattle.elementary.specs.Notation.{◌⊕◌, ◌⊖◌, ◌⊗◌, ◌⊘◌, lit}

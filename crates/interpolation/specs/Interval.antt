@@ -1,4 +1,4 @@
--- `find_interval` of pbrt.rs: a bisection of 0 .. size by a test on indices, the Rust's closure. Nothing is asked of the test.
+-- `find_interval` of pbrt.rs (specification, section 9.2): a bisection of 0 .. size by a test on indices, the Rust's closure. Nothing is asked of the test.
 use Rattle.std.specs.Prelude.{ℕ, zero, suc, ◌+◌, ◌-◌, ◌/◌, min, Bool, cond, List, get_or, length, Float}
 use Rattle.std.specs.Float.{nan}
 use Rattle.std.specs.Float.Ieee.{le}

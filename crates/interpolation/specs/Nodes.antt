@@ -1,4 +1,4 @@
--- Check 6 of document 01, over a node list.
+-- Check 6 (specification, section 9.1), over a node list.
 use Rattle.std.specs.Prelude.{ℕ, zero, suc, ◌+◌, ◌-◌, Bool, true, false, ◌&&◌, List, get_or, length, Float}
 use Rattle.std.specs.Float.{nan, inf, fin}
 use Rattle.std.specs.Float.Ieee.{lt}

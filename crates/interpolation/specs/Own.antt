@@ -1,4 +1,4 @@
--- The calls that document 01 offers on a caller's own lists ("The other calls"), each with the number of its refusal, its value, and what a lent list holds after it.
+-- The calls on a caller's own lists (specification, section 11), each with the number of its refusal, its value, and what a lent list holds after it.
 use Rattle.std.specs.Prelude.{ℕ, ◌*◌, List, [], ◌∷◌, pos, length, Float, Option, Some, None, Result}
 use Rattle.elementary.specs.Notation.{lit}
 use Rattle.interpolation.specs.Weights.{list_of_four, catmull_rom_weights}

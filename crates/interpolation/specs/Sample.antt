@@ -1,4 +1,4 @@
--- `sample_catmull_rom_2d` of interpolation.rs, in its order of operations, with an allowance of rounds.
+-- `sample_catmull_rom_2d` of interpolation.rs, in its order of operations, with an allowance of rounds (specification, section 9.7).
 use Rattle.std.specs.Prelude.{ℕ, ◌+◌, ◌-◌, List, ℤ, get_or, length, Float, Option, Some, None, Result, Ok, Err}
 use Rattle.std.specs.Float.{nan}
 use Rattle.elementary.specs.Notation.{◌⊕◌, ◌⊖◌, ◌⊗◌, ◌⊘◌}

@@ -1,4 +1,4 @@
--- The derivatives at the ends of a spline's segment, by finite differences, times the segment's width: `d0` and `d1` of `integrate_catmull_rom` and of `sample_catmull_rom_2d`.
+-- The derivatives at the ends of a spline's segment (specification, section 9.4), by finite differences, times the segment's width: `d0` and `d1` of `integrate_catmull_rom` and of `sample_catmull_rom_2d`.
 -- The function's values at the nodes x are f 0, f 1, ..: a list's for the first, blended ones for the second.
 use Rattle.std.specs.Prelude.{ℕ, ◌+◌, ◌-◌, cond, List, ltb, get_or, length, Float}
 use Rattle.std.specs.Float.{nan}

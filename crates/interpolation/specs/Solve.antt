@@ -1,4 +1,4 @@
--- The inverse of a segment's integral, by Newton's method and bisection: the end of `sample_catmull_rom_2d`, in its order of operations. A round is one evaluation of `f_hat`, and an allowance bounds their number.
+-- The inverse of a segment's integral, by Newton's method and bisection (specification, section 9.8): the end of `sample_catmull_rom_2d`, in its order of operations. A round is one evaluation of `f_hat`, and an allowance bounds their number.
 -- Literals: 0x3f800000 is 1, 0x40000000 is 2, 0x40400000 is 3, 0x3f000000 is 0.5, 0x3e800000 is 0.25 and 0x358637bd is 1e-6.
 use Rattle.std.specs.Prelude.{ℕ, zero, suc, ◌+◌, Bool, cond, true, Float, Option, Some, None}
 use Rattle.std.specs.Float.Ieee.{lt, le, eq, neg}

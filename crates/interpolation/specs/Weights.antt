@@ -1,4 +1,4 @@
--- `catmull_rom_weights` of interpolation.rs, in its order of operations.
+-- `catmull_rom_weights` of interpolation.rs, in its order of operations (specification, section 9.3).
 use Rattle.std.specs.Prelude.{ℕ, zero, suc, ◌+◌, ◌-◌, Bool, cond, false, List, [], ◌∷◌, ltb, ℤ, pos, negsuc, get_or, length, Float, Option, Some, None}
 use Rattle.std.specs.Float.{nan}
 use Rattle.std.specs.Float.Ieee.{le, neg}

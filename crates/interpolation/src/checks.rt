@@ -1,5 +1,5 @@
-// The checks of document 01's table that concern calls on a caller's own lists. What they share is
-// `refuse_unless`: each has a test and a refusal of its own.
+// The checks of the table of refusals that concern calls on a caller's own lists (specification,
+// section 4.2). What they share is `refuse_unless`: each has a test and a refusal of its own.
 ghost use Rattle.std.specs.Prelude.{◌≡◌};
 ghost use Rattle.answers.specs.Refusal.{number_of};
 ghost use Rattle.interpolation.specs.Checks as Checks;

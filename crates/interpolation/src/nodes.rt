@@ -1,4 +1,4 @@
-// Check 6 of document 01, and lists of nodes that pass it.
+// Check 6 (specification, section 9.1), and lists of nodes that pass it.
 ghost use Rattle.std.specs.Prelude.{true, ◌≡◌, ◌+◌, ◌≤◌, length, IfOk};
 ghost use Rattle.std.specs.List.{count_by, range_with_len};
 ghost use Rattle.answers.specs.Refusal.{number_of};

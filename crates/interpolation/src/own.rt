@@ -1,5 +1,5 @@
 // Weights, integration and 2D sampling on a caller's own lists. Nothing is asked of the lists or
-// the numbers: a call that document 01 refuses gives the refusal and writes nothing.
+// the numbers: a call that a check refuses gives the refusal and writes nothing.
 #![tactic(auto, using(crate::proofs::Refusals::numbering, answers::proofs::Results::calling), unfolding(answers::specs::Refusal::number_of, answers::specs::Refusal::told, crate::specs::Own::weights_number, crate::specs::Own::weights_told, crate::specs::Own::weights, crate::specs::Own::integral_number, crate::specs::Own::integral_told, crate::specs::Own::integral_value, crate::specs::Own::integral, crate::specs::Own::cdf_after, crate::specs::Own::sizes_number, crate::specs::Own::sample_number, crate::specs::Own::sample_told, crate::specs::Own::sample2d, crate::specs::Checks::max_rows))]
 
 ghost use Rattle.std.specs.Prelude.{◌≡◌, IfOk};
@@ -101,7 +101,8 @@ pub fn sample_2d(
     sample_catmull_rom_2d(checked, nodes2, values, cdf, alpha, u, allowance)
 }
 
-// Document 01's proved table is the contract, line by line; the function does nothing.
+// The proved values (specification, section 13.2) are the contract, line by line; the function does
+// nothing.
 #[tactic(auto, using(crate::proofs::Table::proved))]
 pub fn proved_table()
     ensures { ProvedTable }

@@ -41,7 +41,7 @@ pub(crate) fn of_one<F: FnOnce(f32) -> f32>(
     Ok(())
 }
 
-// L, which document 01 has at normal numbers between 0 and 1.
+// L, which has a value at normal numbers between 0 and 1 alone (specification, section 7.4).
 pub(crate) fn ln(line: Line<'_>, out: &mut Output) -> Result<(), Malformed> {
     let bits: u32 = line.last()?;
     if !(0x0080_0000..0x3f80_0000).contains(&bits) {

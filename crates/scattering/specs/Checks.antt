@@ -1,4 +1,4 @@
--- The checks of document 01's table that concern `sw`. Each gives its number, or 0 where it refuses nothing.
+-- The checks of the table of refusals that concern `sw` (specification, section 4.2). Each gives its number, or 0 where it refuses nothing.
 use Rattle.std.specs.Prelude.{ℕ, ◌&&◌, not, Float}
 use Rattle.std.specs.Float.Ieee.{le, is_nan}
 use Rattle.answers.specs.Checks.{unless_passed}

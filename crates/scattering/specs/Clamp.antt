@@ -1,4 +1,4 @@
--- `clamp_t` of pbrt.rs. A NaN stays one.
+-- `clamp_t` of pbrt.rs (specification, section 8.1). A NaN stays one.
 use Rattle.std.specs.Prelude.{cond, Float}
 use Rattle.std.specs.Float.Ieee.{lt}
 

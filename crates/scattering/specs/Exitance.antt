@@ -1,4 +1,4 @@
--- The offered call `sw`, the Fresnel term of `TabulatedBssrdf` in bssrdf.rs: the number of its refusal, and its value, a spectrum of three equal values.
+-- The offered call `sw`, the Fresnel term of `TabulatedBssrdf` in bssrdf.rs (specification, section 8.9): the number of its refusal, and its value, a spectrum of three equal values.
 use Rattle.std.specs.Prelude.{ℕ, [], ◌∷◌, Result, Float}
 use Rattle.elementary.specs.Notation.{◌⊖◌, ◌⊗◌, ◌⊘◌}
 use Rattle.elementary.specs.Constants.{pi}

@@ -1,4 +1,4 @@
--- `fr_dielectric` of reflection.rs: how much of the light is reflected at the boundary between two dielectrics.
+-- `fr_dielectric` of reflection.rs (specification, section 8.2): how much of the light is reflected at the boundary between two dielectrics.
 use Rattle.std.specs.Prelude.{cond, Float}
 use Rattle.std.specs.Float.Ieee.{neg, lt, le}
 use Rattle.elementary.specs.Notation.{◌⊕◌, ◌⊖◌, ◌⊗◌, ◌⊘◌, lit}

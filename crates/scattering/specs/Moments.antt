@@ -1,4 +1,4 @@
--- `fresnel_moment1` and `fresnel_moment2` of bssrdf.rs: polynomials in eta, and in 1 / eta, that approximate the moments of the Fresnel reflectance. Each coefficient is named by its decimal; specs/Literals has its bits.
+-- `fresnel_moment1` and `fresnel_moment2` of bssrdf.rs (specification, section 8.4): polynomials in eta, and in 1 / eta, that approximate the moments of the Fresnel reflectance. Each coefficient is named by its decimal; specs/Literals has its bits.
 use Rattle.std.specs.Prelude.{cond, Float}
 use Rattle.std.specs.Float.Ieee.{lt, neg}
 use Rattle.elementary.specs.Notation.{◌⊕◌, ◌⊖◌, ◌⊗◌, ◌⊘◌}

@@ -1,4 +1,4 @@
--- `beam_diffusion_ms` of bssrdf.rs: the light that is scattered many times and leaves at the distance r, by a dipole of sources for each depth.
+-- `beam_diffusion_ms` of bssrdf.rs (specification, section 8.7): the light that is scattered many times and leaves at the distance r, by a dipole of sources for each depth.
 use Rattle.std.specs.Prelude.{ℕ, Float}
 use Rattle.std.specs.Float.Ieee.{neg}
 use Rattle.elementary.specs.Notation.{◌⊕◌, ◌⊖◌, ◌⊗◌, ◌⊘◌}

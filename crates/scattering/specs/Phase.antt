@@ -1,4 +1,4 @@
--- `phase_hg` of medium.rs, the phase function of Henyey and Greenstein.
+-- `phase_hg` of medium.rs, the phase function of Henyey and Greenstein (specification, section 8.3).
 use Rattle.std.specs.Prelude.{Float}
 use Rattle.elementary.specs.Notation.{◌⊕◌, ◌⊖◌, ◌⊗◌, ◌⊘◌}
 use Rattle.elementary.specs.Constants.{inv_4_pi}

@@ -1,4 +1,4 @@
--- What the sums of `beam_diffusion_ss` and `beam_diffusion_ms` share: a hundred samples of depth, by the logarithm.
+-- What the sums of `beam_diffusion_ss` and `beam_diffusion_ms` share (specification, section 8.5): a hundred samples of depth, by the logarithm.
 use Rattle.std.specs.Prelude.{ℕ, List, pos, Float}
 use Rattle.std.specs.Float.{binary32}
 use Rattle.std.specs.Float.Ieee.{of_int}

@@ -1,4 +1,4 @@
--- `beam_diffusion_ss` of bssrdf.rs: the light that is scattered once and leaves at the distance r.
+-- `beam_diffusion_ss` of bssrdf.rs (specification, section 8.6): the light that is scattered once and leaves at the distance r.
 use Rattle.std.specs.Prelude.{ℕ, Float}
 use Rattle.std.specs.Float.Ieee.{neg}
 use Rattle.elementary.specs.Notation.{◌⊕◌, ◌⊖◌, ◌⊗◌, ◌⊘◌}

@@ -1,4 +1,4 @@
--- `RGBSpectrum` of spectrum.rs, and the three channels: what the tables and their queries use of it.
+-- `RGBSpectrum` of spectrum.rs, and the three channels (specification, section 8.8): what the tables and their queries use of it.
 use Rattle.std.specs.Prelude.{◌≡◌, ℕ, ◌<◌, Bool, ◌||◌, List, [], ◌∷◌, Float, Result, MatchResult}
 use Rattle.std.specs.Float.Ieee.{is_nan}
 use Rattle.elementary.specs.Notation.{◌⊕◌, ◌⊗◌, lit}

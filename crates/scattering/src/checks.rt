@@ -1,4 +1,5 @@
-// The checks of document 01's table that concern `sw`, each a test and a refusal of its own.
+// The checks of the table of refusals that concern `sw` (specification, section 4.2), each a test and
+// a refusal of its own.
 #![tactic(auto, using(elementary::proofs::Values::testing), unfolding(answers::specs::Refusal::number, crate::specs::Checks::check4, crate::specs::Checks::check9))]
 
 ghost use Rattle.std.specs.Prelude.{◌≡◌};

@@ -1,4 +1,4 @@
--- The nodes that `compute_beam_diffusion_bssrdf` of bssrdf.rs chooses, in its order of operations, over the growth of the radii and the decay of the albedos: there 1.2 and 8.
+-- The nodes that `compute_beam_diffusion_bssrdf` of bssrdf.rs chooses (specification, section 5), in its order of operations, over the growth of the radii and the decay of the albedos: there 1.2 and 8.
 use Rattle.std.specs.Prelude.{ℕ, zero, suc, pos, Float}
 use Rattle.std.specs.Float.{binary32}
 use Rattle.std.specs.Float.Ieee.{of_int, neg}

@@ -1,4 +1,4 @@
--- Building row i (document 01, "Building one row"), from the nodes as they are lent: its part of the profile and of the CDF, its effective albedo and its mark; every other place stays.
+-- Building row i (specification, section 6), from the nodes as they are lent: its part of the profile and of the CDF, its effective albedo and its mark; every other place stays.
 use Rattle.std.specs.Prelude.{ℕ}
 use Rattle.answers.specs.Answer.{answered, written}
 use Rattle.table.specs.Parameters.{Lists, Effect, lengths_of, effect, done}

@@ -1,4 +1,4 @@
--- The checks of document 01's table that concern starting and building, 1 to 7, in its order. 1, 2 and 6 are those of `interpolation`, 4 is that of `scattering`.
+-- The checks of the table of refusals that concern starting and building, 1 to 7, in its order (specification, sections 4.2 and 4.3). 1, 2 and 6 are those of `interpolation`, 4 is that of `scattering`.
 use Rattle.std.specs.Prelude.{ℕ, ◌*◌, ◌&&◌, List, [], ◌∷◌, ltb, eqb, Float}
 use Rattle.std.specs.Float.Ieee.{neg, lt}
 use Rattle.answers.specs.Checks.{unless_passed, first_of}

@@ -1,4 +1,4 @@
--- The two node lists that a started table of a record has (document 01, "Starting a table"): with the source's growth of 1.2 and decay of 8.
+-- The two node lists that a started table of a record has (specification, section 5): with the source's growth of 1.2 and decay of 8.
 use Rattle.std.specs.Prelude.{List, Float}
 use Rattle.elementary.specs.Lists.{list_of}
 use Rattle.starting_nodes.specs.Nodes.{«1·2», eight, radius_sample, rho_sample}

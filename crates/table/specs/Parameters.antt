@@ -1,4 +1,4 @@
--- What document 01's calls on a table are about ("Starting a table"): the record, the six lists that a caller lends, and what a call does.
+-- What the calls on a table are about (specification, section 3): the record, the six lists that a caller lends, and what a call does.
 use Rattle.std.specs.Prelude.{ℕ, ◌≡◌, ◌*◌, List, [], length, T, Result, Float}
 use Rattle.std.specs.Float.{binary32}
 use Rattle.std.specs.Float.Ieee.{fits}

@@ -1,4 +1,4 @@
--- One row of a table (document 01, "Building one row"): the body of the last loop of `compute_beam_diffusion_bssrdf` in bssrdf.rs.
+-- One row of a table (specification, section 6): the body of the last loop of `compute_beam_diffusion_bssrdf` in bssrdf.rs.
 use Rattle.std.specs.Prelude.{ℕ, ◌+◌, List, map, ◌++◌, length, take, drop, Float}
 use Rattle.elementary.specs.Notation.{◌⊕◌, ◌⊖◌, ◌⊗◌}
 use Rattle.elementary.specs.Constants.{pi}

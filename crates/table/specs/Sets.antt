@@ -1,4 +1,4 @@
--- The table of a set of rows (document 01, "Drawing a radius", the plain tally): the nodes of starting; a row in the set as building gives it, marked 1; +0 and mark 0 elsewhere.
+-- The table of a set of rows (specification, section 12.2): the nodes of starting; a row in the set as building gives it, marked 1; +0 and mark 0 elsewhere.
 use Rattle.std.specs.Prelude.{ℕ, zero, suc, Bool, true, false, cond, List, [], ◌++◌, eqb}
 use Rattle.elementary.specs.Lists.{list_of}
 use Rattle.table.specs.Parameters.{Lists}

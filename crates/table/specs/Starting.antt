@@ -1,4 +1,4 @@
--- Starting a table (document 01, "Starting a table"): the nodes of the record, and all else is zero.
+-- Starting a table (specification, section 5): the nodes of the record, and all else is zero.
 use Rattle.std.specs.Prelude.{◌*◌, replicate}
 use Rattle.elementary.specs.Notation.{lit}
 use Rattle.answers.specs.Answer.{answered, written}

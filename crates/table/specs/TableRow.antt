@@ -1,4 +1,4 @@
--- A row of a table as one value: where it stands in the six lists, what building and starting make of it, and the lists with another row in its place.
+-- A row of a table as one value (specification, sections 3.3 and 6): where it stands in the six lists, what building and starting make of it, and the lists with another row in its place.
 use Rattle.std.specs.Prelude.{ℕ, ◌*◌, List, get_or, set, take, drop, replicate, Float}
 use Rattle.std.specs.Float.{nan}
 use Rattle.elementary.specs.Notation.{lit}

@@ -1,5 +1,5 @@
-// The checks of document 01's table that concern starting and building, 1 to 7, each a test and a refusal
-// of its own.
+// The checks of the table of refusals that concern starting and building, 1 to 7 (specification,
+// sections 4.2 and 4.3), each a test and a refusal of its own.
 #![tactic(auto, using(crate::proofs::Cited::chains), unfolding(answers::specs::Refusal::number, answers::specs::Refusal::number_of, crate::specs::Checks::check3, crate::specs::Checks::check5, crate::specs::Checks::check7, crate::specs::Checks::record_number, crate::specs::Checks::start_number, crate::specs::Checks::table_number, crate::specs::Checks::build_number))]
 
 ghost use Rattle.std.specs.Prelude.{◌≡◌, ◌≤◌};

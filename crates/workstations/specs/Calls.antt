@@ -1,4 +1,4 @@
--- What a call does, and what a list of calls does: each is given the start's record, and the six lists as the call before left them (document 01, "Drawing a radius").
+-- What a call does, and what a list of calls does: each is given the start's record, and the six lists as the call before left them (specification, section 12.1).
 use Rattle.std.specs.Prelude.{ℕ, List, [], ◌∷◌, Result, Float}
 use Rattle.answers.specs.Answer.{Answer, value}
 use Rattle.answers.specs.Checks.{first_of}

@@ -1,4 +1,4 @@
--- The plain tally (document 01, "Drawing a radius"). It is fed the start's record and the later calls' arguments alone, and keeps that record and a set of row numbers. The set's table is `table_of` of `table`.
+-- The plain tally (specification, section 12.2). It is fed the start's record and the later calls' arguments alone, and keeps that record and a set of row numbers. The set's table is `table_of` of `table`.
 use Rattle.std.specs.Prelude.{List, [], ◌∷◌}
 use Rattle.answers.specs.Answer.{Answer, written}
 use Rattle.table.specs.Parameters.{lengths_of, done}
@@ -19,7 +19,7 @@ unfoldable pub rows_after : Record → Rows → List Call → Rows
 rows_after r S [] = S
 rows_after r S (c ∷ cs) = rows_after r (next r S c) cs
 
--- the answer to each call: the refusal or the value that document 01 gives on the set's table as it stands before the call
+-- the answer to each call: the refusal or the value that it has on the set's table as it stands before the call
 unfoldable pub answers_from : Record → Rows → List Call → List Answer
 answers_from r S [] = []
 answers_from r S (c ∷ cs) = (step r (table_of r S) c).answer ∷ answers_from r (next r S c) cs

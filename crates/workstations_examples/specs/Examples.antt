@@ -99,7 +99,7 @@ starting lent accepted calls = record { opening = by_start lent accepted; calls 
 
 -- ---- the examples
 
--- document 01's own: what queries need and get on the table of row 2 alone
+-- the example of the specification (section 10.3): what queries need and get on the table of row 2 alone
 pub record OnRow2 : Type 0 where
   -- albedo 1 needs row 2 alone, by each of its channels, and is in order, and passes check 11; its density is a value, read from row 2
   pub white_needs : needed_rows three table_of_row2 (Sr white near) ≡ 2 ∷ 2 ∷ 2 ∷ []
@@ -119,7 +119,7 @@ pub record OnRow2 : Type 0 where
 pub record Examples : Type 0 where
   -- a start is accepted on lists of any contents that have the record's lengths
   pub accepted : (t : Lists) → check5 three (lengths_of t) ≡ 0 → (start three t).answer ≡ done
-  -- document 01's own: after one build only row 2 is built, whatever the lists held before
+  -- the example of the specification (section 10.3): after one build only row 2 is built, whatever the lists held before
   pub one_row : (k : ℕ) → rows_built (StartOf three) (Build 2 ∷ []) k ≡ only_row2 k
   pub one_table : (lent : Lists) (ok : (start three lent).answer ≡ done) → table_after three (starting lent ok (Build 2 ∷ [])) ≡ table_of_row2
   pub on_row_2 : OnRow2
