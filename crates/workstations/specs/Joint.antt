@@ -1,4 +1,4 @@
--- The joint claim (demand 3; specification, section 12.3): statements over whole lists of calls from any two workstations. `Joint` is the contract of a function, `joint`; what stands before it are its words.
+-- The joint claim (specification, section 12.3): statements over whole lists of calls from any two workstations. `Joint` is the contract of a function, `joint`; what stands before it are its words.
 -- After it, in the same words: that no accepted start is in vain (`Progress`, the contract of `progress`; specification, section 12.4).
 -- An equation of floats or lists means the same bits, any NaN equal to any NaN (`Notation` of `elementary`).
 use Rattle.std.specs.Prelude.{ℕ, ◌≤◌, ◌<◌, ◌≡◌, ◌↔◌, true, false, cond, List, ◌∷◌, ltb, Float}
