@@ -1,6 +1,6 @@
 // The elementary functions under the tables: the stand-ins Q, E and L, the sign, and the two float
-// formats (specification, section 7). Each is total and has a contract that is an equation with a
-// definition of specs/, over the logic's account of IEEE 754.
+// formats (specification, section 7). Each function of a float is total, and its contract has an
+// equation with a definition of specs/, over the logic's account of IEEE 754.
 #![tactic(auto)]
 
 pub mod bits;

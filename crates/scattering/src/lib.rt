@@ -1,6 +1,7 @@
 // How light scatters below a surface and leaves it: the Fresnel term of reflection.rs, the phase
-// function of medium.rs, the moments and beam diffusion of bssrdf.rs, and the spectrum. Each
-// function is total and has a contract that is an equation with a definition of specs/.
+// function of medium.rs, the moments and beam diffusion of bssrdf.rs, and the spectrum (specification,
+// section 8). Each function that the Rust has too is total, and its contract is an equation with a
+// definition of specs/.
 #![tactic(auto)]
 
 pub mod checks;
