@@ -136,7 +136,8 @@ uint32_t gauzespar_sr(size_t n, size_t m, float g, float eta,
                       float radius,
                       float *radiance, size_t radiance_length);               /* 3 */
 
-/* The density with which gauzespar_sample_sr draws a radius in one channel. Refusals: 1 to 6, 8, 11, 100. */
+/* The density, by area, with which gauzespar_sample_sr draws a radius in one channel: 2 pi times the radius times density[0] is that
+ * of the radius itself. Refusals: 1 to 6, 8, 11, 100. */
 uint32_t gauzespar_pdf_sr(size_t n, size_t m, float g, float eta,
                           const float *rho_samples, size_t rho_samples_length,
                           const float *radius_samples, size_t radius_samples_length,

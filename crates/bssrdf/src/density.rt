@@ -33,8 +33,8 @@ fn inside_density(cells: Cells<'_>, rho_eff: &[f32], sigma_t: f32, x: OpticalRad
     elementary::max0(sum * sigma_t * sigma_t / albedos.interpolate(0))
 }
 
-// The density with which `sample_sr` draws the world radius x in the channel ch. The lists are only
-// read. Refusals: 1 to 6, 8, 11.
+// The density, by area, with which `sample_sr` draws the world radius x in the channel ch: 2 pi x times
+// it is that of the radius itself. The lists are only read. Refusals: 1 to 6, 8, 11.
 #[tactic(auto, using(crate::proofs::OneChannel::pdf_by_tests, crate::proofs::TwoParts::passing, crate::proofs::Cells::searching), unfolding(answers::specs::Refusal::number_of, answers::specs::Refusal::number, answers::specs::Refusal::told, crate::specs::Density::pdf_told, crate::specs::Axes::optical_radius))]
 pub fn pdf_sr(t: Table<'_>, ch: RGBEnum, c: Coefficients, x: WorldRadius) -> Result<f32, Refusal>
     ensures { Spec.pdf_told result ≡ Spec.pdf_sr t.entry.record (lists_of t.entry) ch c x }

@@ -116,8 +116,8 @@ pub extern "C" fn gauzespar_sr(
     told(write_sr(t, c, WorldRadius(radius), radiance))
 }
 
-// The density with which a radius is drawn in one channel. Refusals: 1 to 6, 8, 11, and 100 before
-// them.
+// The density, by area, with which a radius is drawn in one channel. Refusals: 1 to 6, 8, 11, and 100
+// before them.
 #[unsafe(no_mangle)]
 pub extern "C" fn gauzespar_pdf_sr(
     n: usize,
