@@ -20,7 +20,7 @@ KINDS = {
     "rule": r" {0,3}([-*_])[ \t]*(?:\1[ \t]*){2,}$",
     "table": r" {0,3}\|",
     "html": r" {0,3}<(?![^ >]*[:@])[A-Za-z/!?]",
-    "definition": r" {0,3}\[[^\]]+\]:",
+    "definition": r" {0,3}\[[^\]]+\]:[ \t]*\S*(?:[ \t]+[\"'(].*)?$",
     "quote": r" {0,3}> ?",
     "item": r" {0,3}(?:[-*+]|\d{1,9}[.)])(?: {1,4}(?=\S)| (?= )| *$)",
     "text": "",
@@ -81,7 +81,7 @@ def blocks(lines):
         elif what == "html" and "<!--" in line:
             i = past(lines, first, lambda x: "-->" not in x) + 1
         elif what == "html":
-            i = past(lines, i, lambda x: kind(x) != "blank")
+            i = past(lines, i, lambda x: kind(x) not in ("blank", "fence"))
         elif what == "table":
             i = past(lines, i, is_row)
         elif what == "code":
