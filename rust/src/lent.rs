@@ -107,7 +107,7 @@ impl View<'_> {
         Ok(radiance)
     }
 
-    /// The density with which a radius is drawn: see [`Table::pdf_sr`](crate::Table::pdf_sr).
+    /// The density of what is drawn, in 1 over area: see [`Table::pdf_sr`](crate::Table::pdf_sr).
     ///
     /// Refusals: 1 to 6, 8, 11.
     pub fn pdf_sr(

@@ -1,7 +1,7 @@
 //! How light that enters tinted silicone leaves it again: beam diffusion tables for subsurface scattering, over a proved library.
 //!
 //! A [`Table`] has one row for each of a number of albedos and one column for each of a number of radii. Its rows are
-//! built one by one, and a tint needs only some of them:
+//! built one by one, and a tint needs at most twelve of them:
 //!
 //! ```
 //! use gauzespar::{Channel, Coefficients, Record, Refusal, Table, WorldRadius};
@@ -28,9 +28,10 @@
 //!
 //! # What is proved, and what is not
 //!
-//! The calls themselves are compiled from Rattle, in which a function is compiled only once it is proved to meet its contract:
-//! for all inputs they give exactly the bits of the published formulas with each operation rounded once, refuse exactly what
-//! they say they refuse, and write only what they say they write. The repository's README leads to the contracts.
+//! The functions that are linked are compiled from Rattle, in which a function is compiled only once it is proved to meet its
+//! contract: for all inputs they give exactly the bits of the formulas in docs/SPECIFICATION.md with each operation rounded
+//! once, where any NaN is equal to any NaN; they refuse exactly what is to be refused, and write only what is to be written.
+//! The repository's README leads to the contracts.
 //!
 //! This crate is not proved. It passes slices to the linked library and hands the answers back. [`Coefficients::rho`] and the
 //! choice of rows in [`Table::needed_rows`] are Rust; a mistake there could build too few rows or too many, but could not make
@@ -39,8 +40,8 @@
 //!
 //! # Refusals
 //!
-//! No call panics over what it is given. It answers a [`Refusal`], the first that applies, and then has written nothing. Each
-//! call lists the numbers that it can give.
+//! A call that can be refused does not panic over what it is given. It answers a [`Refusal`], the first that applies, and then
+//! has written nothing. Each call lists the numbers that it can give.
 //!
 //! # Threads
 //!

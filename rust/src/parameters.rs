@@ -77,7 +77,8 @@ impl Channel {
 /// A distance along the surface, in the unit whose inverse the coefficients have.
 ///
 /// The library takes it times sigma_t to get a radius in mean free paths, which is what a table's radius nodes are.
-/// It may be any float. One that is far out, below 0 or NaN lies outside the table.
+/// It may be any float. Where the product is beyond the last node, below the first (0, in a table that was started) or NaN, it
+/// lies outside the table.
 #[derive(Clone, Copy, Debug, PartialEq, PartialOrd)]
 pub struct WorldRadius(pub f32);
 

@@ -4,8 +4,9 @@ use std::fmt;
 
 /// A table of profiles, one row for each albedo, whose rows are built as they are needed.
 ///
-/// A query needs the rows of nonzero albedo weight. It is answered if these are built, whatever other rows are, and refused
-/// with [`Refusal::RowMissing`] if one of them is not. Queries take `&self`, so that threads may share a table.
+/// A query needs the rows of nonzero albedo weight. If these are built, its answer does not depend on any other row; if one of
+/// them is not, it is refused with [`Refusal::RowMissing`], unless its arguments are refused first. Queries take `&self`, so
+/// that threads may share a table.
 ///
 /// ```
 /// use gauzespar::{Coefficients, Record, Refusal, Table, WorldRadius};
@@ -73,15 +74,17 @@ impl Table {
     }
 
     /// The radiance that leaves at a radius from where light entered, in red, green and blue. A channel whose albedo or radius
-    /// lies outside the nodes is 0 and needs no row.
+    /// lies outside the nodes is 0 and needs no row. Where the square of its sigma_t overflows it is a NaN instead, and the call
+    /// is refused with 12.
     ///
     /// Refusals: 8, 11, 12.
     pub fn sr(&self, coefficients: Coefficients, radius: WorldRadius) -> Result<[f32; 3], Refusal> {
         self.view().sr(self.record, coefficients, radius)
     }
 
-    /// The density with which [`sample_sr`](Table::sample_sr) draws a radius in one channel, 0 where its albedo or radius lies
-    /// outside the nodes. It needs the rows of that channel alone.
+    /// The density of what [`sample_sr`](Table::sample_sr) draws in one channel, in 1 over area: 2 pi times the radius times it
+    /// is the density of the radius itself. It is 0 where the albedo or the radius lies outside the nodes. It needs the rows of
+    /// that channel alone.
     ///
     /// Refusals: 8, 11.
     pub fn pdf_sr(&self, channel: Channel, coefficients: Coefficients, radius: WorldRadius) -> Result<f32, Refusal> {

@@ -133,7 +133,7 @@ fn the_fresnel_term() {
     assert_eq!(sw(0.9, 1.0), Err(Refusal::RefractiveIndex));
 }
 
-/// Document 01's "Proved table".
+/// The weights of the specification, section 13.2.
 #[test]
 fn known_weights() {
     let at = |nodes: &[f32], x: f32| weights(nodes, x).unwrap().map(|w| (w.offset, bits(w.weights)));

@@ -1,4 +1,5 @@
-//! Random lists of calls from two workstations against document 01's plain tally, which keeps the record and a set of rows.
+//! Random lists of calls from two workstations against the plain tally of the specification, section 12.2, which keeps the record
+//! and a set of rows.
 use gauzespar::{Channel, Coefficients, Record, Refusal, Table, WorldRadius};
 use std::collections::BTreeSet;
 

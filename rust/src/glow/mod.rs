@@ -9,6 +9,7 @@ mod lines;
 mod mixture;
 mod nearest;
 mod options;
+mod overwriting;
 mod picture;
 mod pigments;
 mod progress;
@@ -25,6 +26,7 @@ use light::Light;
 use options::{Options, Wish};
 use recipe::Recipe;
 use std::ffi::OsString;
+use std::fs::File;
 use std::io::{Read, Write};
 use std::path::Path;
 
@@ -43,7 +45,9 @@ pub fn run(arguments: Vec<OsString>) -> Result<(), Failure> {
 
 fn glow(options: &Options) -> Result<(), Failure> {
     let file = options.recipe.display().to_string();
-    let bytes = read(&options.recipe).map_err(|reason| Failure::bad(format!("{file}: {reason}\n")))?;
+    let opened = File::open(&options.recipe).map_err(|error| Failure::of(&file, error))?;
+    overwriting::refuse(&file, &opened, options.written())?;
+    let bytes = read(opened).map_err(|reason| Failure::of(&file, reason))?;
     let source = String::from_utf8_lossy(&bytes);
     let recipe = recipe::parse(&bytes).map_err(|fault| Failure::bad(fault.told(&file, &source)))?;
     answer(options, &recipe).map_err(|stop| match stop {
@@ -96,9 +100,8 @@ fn answer(options: &Options, recipe: &Recipe) -> Result<(), Stop> {
     Ok(())
 }
 
-fn read(path: &Path) -> Result<Vec<u8>, String> {
+fn read(file: File) -> Result<Vec<u8>, String> {
     let mut bytes = Vec::new();
-    let file = std::fs::File::open(path).map_err(|error| error.to_string())?;
     file.take(LARGEST_RECIPE + 1).read_to_end(&mut bytes).map_err(|error| error.to_string())?;
     if bytes.len() as u64 > LARGEST_RECIPE {
         return Err(format!("expected a recipe of at most {LARGEST_RECIPE} bytes, found a larger file"));
@@ -107,14 +110,14 @@ fn read(path: &Path) -> Result<Vec<u8>, String> {
 }
 
 fn write(path: &Path, text: &str) -> Result<(), Failure> {
-    std::fs::write(path, text).map_err(|error| Failure::bad(format!("{}: {error}\n", path.display())))
+    std::fs::write(path, text).map_err(|error| Failure::of(path.display(), error))
 }
 
 /// Prints to standard output. Who closes the pipe has read enough.
 pub fn print(text: &str) -> Result<(), Failure> {
     let mut out = std::io::stdout().lock();
     match out.write_all(text.as_bytes()).and_then(|()| out.flush()) {
-        Err(error) if error.kind() != std::io::ErrorKind::BrokenPipe => Err(Failure::bad(format!("standard output: {error}\n"))),
+        Err(error) if error.kind() != std::io::ErrorKind::BrokenPipe => Err(Failure::of("standard output", error)),
         _ => Ok(()),
     }
 }

@@ -2,7 +2,7 @@
 
 use super::failure::Failure;
 use std::ffi::OsString;
-use std::path::PathBuf;
+use std::path::{Path, PathBuf};
 
 #[derive(Debug, Default, PartialEq)]
 pub struct Options {
@@ -10,6 +10,13 @@ pub struct Options {
     pub csv: bool,
     pub quiet: bool,
     pub svg: Option<PathBuf>,
+}
+
+impl Options {
+    /// The files that are written, beside standard output.
+    pub fn written(&self) -> impl Iterator<Item = &Path> {
+        self.svg.iter().map(PathBuf::as_path)
+    }
 }
 
 #[derive(Debug, PartialEq)]

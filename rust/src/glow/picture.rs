@@ -128,7 +128,7 @@ impl Picture<'_> {
         Ok(())
     }
 
-    /// The decades of the radiance, from a little way off radius 0, where it grows without end, to the last radius.
+    /// The decades of the radiance, from a little way off radius 0, near which it is far larger, to the last radius.
     fn decades(&self) -> Result<Decades, Refusal> {
         let to = self.recipe.range.to;
         let near = self.light.at((to / 50.0) as f32)?.map(f64::from);

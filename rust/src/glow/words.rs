@@ -38,7 +38,9 @@ pub fn cautions(recipe: &Recipe, light: &Light) -> Vec<String> {
     let early: Vec<&str> =
         CHANNELS.into_iter().zip(light.profiles()).filter(|(_, p)| p.ends_early()).map(|(name, _)| name).collect();
     if !early.is_empty() {
-        cautions.push(format!("The table ends before the light does in {}: more radii make the glow truer.", early.join(", ")));
+        let most = light.record().m == Record::MAX_RADII;
+        let advice = if most { ", and no table has more radii" } else { ": more radii make the glow truer" };
+        cautions.push(format!("The table ends before the light does in {}{advice}.", early.join(", ")));
     }
     if recipe.tint.is_illustrative() {
         cautions.push(String::from("The built-in pigments are illustrative: chosen by eye, not measured."));

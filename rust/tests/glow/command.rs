@@ -19,6 +19,15 @@ fn help_and_version() {
     for part in ["--csv", "--svg FILE", "--quiet", "--pigments", "chosen by eye and not measured", "Exit status"] {
         assert!(help.contains(part), "{part}");
     }
+    let flowing = help.split_whitespace().collect::<Vec<_>>().join(" ");
+    for limit in [
+        "A recipe has no thickness.",
+        "a flat body of the tint, even throughout and without end to the sides and in depth",
+        "A thin part, such as the rim of an ear or an eyelid, lets light out at its back, or shows what lies behind it",
+        "shows the tint that is meant for it, and not the part",
+    ] {
+        assert!(flowing.contains(limit), "{limit}");
+    }
 }
 
 /// The recipe in the help can be used as it stands.

@@ -3,6 +3,7 @@
 mod command;
 mod faults;
 mod mixtures;
+mod overwriting;
 mod pictures;
 mod runs;
 mod tool;

@@ -124,6 +124,9 @@ fn notes() {
             "The table ends before the light does in red, green, blue: more radii make the glow truer."
         ]
     );
+    // Without absorption the light goes on even beyond the longest table.
+    let longest = note(String::from("absorb 0 1 0\nscatter 1 1 1\n"));
+    assert_eq!(longest, ["The table ends before the light does in red, blue, and no table has more radii."]);
     let built_in = note(String::from("base clear-silicone\n"));
     assert_eq!(built_in, ["The built-in pigments are illustrative: chosen by eye, not measured."]);
 }
