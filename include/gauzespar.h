@@ -3,8 +3,8 @@
  *
  * A table has one row for each of n albedos and one column for each of m radii. `gauzespar_start` makes one with no row built,
  * `gauzespar_build` builds a row, and three queries read it: `gauzespar_sr`, `gauzespar_pdf_sr` and `gauzespar_sample_sr`. A query
- * needs only some of the rows. If one of these is not built it is refused with 11; if they are, no other row has a part in what
- * it answers. It never makes do with rows that merely stand close.
+  * needs only some of the rows. If one of these is not built it is refused, with 11 unless an earlier check refuses it; if they are,
+ * no other row has a part in what it answers. It never makes do with rows that merely stand close.
  *
  *     struct gauzespar_table t = {100, 64, 0.0f, 1.33f, rho, radii, profile, effective, cdf, marks};
  *     struct gauzespar_coefficients tint = {{0.032f, 0.17f, 0.48f}, {0.74f, 0.88f, 1.01f}};

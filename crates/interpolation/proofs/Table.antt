@@ -1,4 +1,4 @@
--- The proved values (`ProvedTable`), by computation: each side is a closed term, and both compute to the same value. Only `ones` speaks of many calls: it is computed under the allowance 1, and a larger one gives the same (`offered_more`). Assumes nothing.
+-- The proved values (`ProvedTable`), by computation: both sides compute to the same value, of the integral whatever the list held. Only `ones`, which speaks of many allowances, needs a law: it is computed under the allowance 1, and a larger one gives the same (`offered_more`). Assumes nothing.
 use mathlib.Core.Path.{◌≡◌, refl}
 use Prim.Native.Nat.{◌+◌, ◌^◌}
 use lib.Ieee.{size, units, is_nan, add, sub, mul, div, neg, lt, le, eq, of_int, of_bits, round}

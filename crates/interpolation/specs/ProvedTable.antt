@@ -1,4 +1,4 @@
--- The proved values (specification, section 13.2), one field for each line there, as answers of the offered calls; with Q(2), Q(2^-148) and E(0). A 0 is +0, and `minus0` is -0.
+-- The proved values (specification, section 13.2), a field for each, the integral and its CDF apart, as answers of the offered calls; with Q(2), Q(2^-148) and E(0). A 0 is +0, and `minus0` is -0.
 use Rattle.std.specs.Prelude.{◌≡◌, List, [], ◌∷◌, ℕ, ◌≤◌, pos, negsuc, Float}
 use Rattle.std.specs.Float.Ieee.{neg}
 use Rattle.elementary.specs.Notation.{lit}
