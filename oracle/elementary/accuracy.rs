@@ -1,7 +1,7 @@
-//! How far document 01's stand-ins are from the functions of Rust's standard library that they stand in for: on every argument for
-//! which a stand-in is defined, any NaN equal to any NaN. A distance is in units in the last place; two zeros are 0 apart, and
-//! infinity is one beyond the largest number. On Linux std takes the exponential and the logarithm from the C library, which may
-//! choose their bodies by the processor.
+//! How far the stand-ins (specification, section 7) are from the functions of Rust's standard library that they stand in for: on
+//! every argument for which a stand-in is defined, any NaN equal to any NaN. A distance is in units in the last place; two zeros are
+//! 0 apart, and infinity is one beyond the largest number. On Linux std takes the exponential and the logarithm from the C library,
+//! which may choose their bodies by the processor.
 #[path = "../shared/places.rs"]
 mod places;
 #[path = "../shared/stand_ins.rs"]

@@ -1,5 +1,5 @@
-/* The elementary functions of document 01, written from its text and independent of the Rattle code: the hardware's
-   operations where IEEE 754 fixes the result, and the formulas of E and L operation by operation.
+/* The elementary functions again (specification, section 7), independent of the Rattle code: the hardware's operations where
+   IEEE 754 fixes the result, and the formulas of E and L operation by operation.
    Compile with -ffp-contract=off, so that no two operations are joined. */
 #include <float.h>
 #include <math.h>

@@ -1,4 +1,4 @@
-//! Document 01's five calls on lent lists, and `sw`: its checks, in its order, around the functions of rs_pbrt.
+//! The five calls on lent lists, and `sw`: their checks (specification, section 4.3), in order, around the functions of rs_pbrt.
 use crate::own_calls::{check_allowance, check_u, offset_and_weights};
 use crate::rounds;
 use crate::stand_ins::StandIns;
@@ -22,6 +22,18 @@ impl StandIns for f32 {
 
 thread_local! {
     static UNCLAMPED: Cell<[f32; 3]> = const { Cell::new([0.0; 3]) };
+    static RAN: Cell<bool> = const { Cell::new(false) };
+}
+
+/// To be said where a call comes to functions of rs_pbrt.
+pub fn rust_runs() {
+    RAN.set(true);
+}
+
+/// What a call gets, and whether it came to any.
+pub fn watched<T>(call: impl FnOnce() -> T) -> (T, bool) {
+    RAN.set(false);
+    (call(), RAN.get())
 }
 
 /// The clamp of a radiance, by the Rust's own where that does not panic. What it is given is kept.
@@ -40,7 +52,7 @@ impl StandInClamp for RGBSpectrum {
     }
 }
 
-/// Document 01 gives PI by its bits.
+/// The specification gives PI by its bits (section 7.6).
 const _: () = assert!(std::f32::consts::PI.to_bits() == 0x40490fdb);
 
 pub const MOST_ROWS: usize = 128;
@@ -162,6 +174,7 @@ fn give_back(t: &BssrdfTable, lists: &mut Lists) {
 
 pub fn start(r: &Record, mut lists: Lists) -> Outcome {
     check_sizes(r, &lists)?;
+    rust_runs();
     let mut t = BssrdfTable::new(r.n as i32, r.m as i32);
     compute_nodes(&mut t);
     give_back(&t, &mut lists);
@@ -172,6 +185,7 @@ pub fn start(r: &Record, mut lists: Lists) -> Outcome {
 pub fn build(r: &Record, row: u32, mut lists: Lists) -> Outcome {
     check_lists(r, &lists)?;
     refuse(7, row >= r.n)?;
+    rust_runs();
     let mut t = table(r, &lists);
     compute_row(r.g, r.eta, &mut t, row as usize);
     give_back(&t, &mut lists);
@@ -194,6 +208,7 @@ const CHANNELS: [RGBEnum; 3] = [RGBEnum::Red, RGBEnum::Green, RGBEnum::Blue];
 
 /// The BSSRDF of the Rust over what the lists hold.
 fn bssrdf(r: &Record, c: &Coefficients, lists: &Lists) -> TabulatedBssrdf {
+    rust_runs();
     medium(&RGBSpectrum { c: c.sigma_a }, &RGBSpectrum { c: c.sigma_s }, r.eta, table(r, lists))
 }
 
@@ -255,6 +270,7 @@ pub fn sample_sr(r: &Record, c: &Coefficients, ch: usize, u: f32, allowance: u32
 pub fn sw(eta: f32, cosine: f32) -> Result<[f32; 3], u32> {
     check_eta(eta)?;
     refuse(9, cosine.is_nan())?;
+    rust_runs();
     let black = RGBSpectrum { c: [0.0; 3] };
     Ok(medium(&black, &black, eta, BssrdfTable::new(0, 0)).sw(&Vector3f { x: 0.0, y: 0.0, z: cosine }).c)
 }

@@ -125,8 +125,8 @@ fn work(program: &str, seed: u64, calls: usize, worker: usize) -> (Counts, Diffe
     (counts, found)
 }
 
-/// Compares as many calls of document 01, by as many threads, each with a program of its own. It ends the oracle with 1 if there is
-/// a difference.
+/// Compares as many offered calls, by as many threads, each with a program of its own. It ends the oracle with 1 if there is a
+/// difference.
 pub fn compare(program: &str, seed: u64, calls: u64, workers: u64) -> std::io::Result<()> {
     let start = Instant::now();
     let (mut counts, mut found) = (Counts::default(), Differences::default());
@@ -147,7 +147,7 @@ pub fn compare(program: &str, seed: u64, calls: u64, workers: u64) -> std::io::R
     if let Some(first) = &found.first {
         println!("the first difference:\n{}", first);
     }
-    let seconds = start.elapsed().as_secs_f64();
-    println!("seed {}, {} lines, {} calls in {:.0} s, {} differences", seed, counts.lines, counts.calls, seconds, found.count);
+    print!("seed {}, {} lines, {} calls, of which {} ran functions of rs_pbrt, ", seed, counts.lines, counts.calls, counts.ran);
+    println!("in {:.0} s, {} differences", start.elapsed().as_secs_f64(), found.count);
     std::process::exit((found.count > 0) as i32)
 }

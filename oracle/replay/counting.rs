@@ -1,4 +1,5 @@
 //! A run of lines, and what is counted of it.
+use crate::calls::watched;
 use crate::cover::Cover;
 use crate::malformed::{EDITS, LINES};
 use crate::protocol::{name, parse, OFFERED, OTHERS};
@@ -20,8 +21,10 @@ impl Display for Got {
 #[derive(Default)]
 pub struct Counts {
     pub lines: usize,
-    /// Those of document 01.
+    /// The offered calls among them, with Q, E and L.
     pub calls: usize,
+    /// Those of them that ran functions of rs_pbrt.
+    pub ran: usize,
     /// The builds and queries that the tally answered.
     pub tallied: usize,
     /// What the lines of each class got.
@@ -33,6 +36,7 @@ impl Counts {
     pub fn add(&mut self, other: Counts) {
         self.lines += other.lines;
         self.calls += other.calls;
+        self.ran += other.ran;
         self.tallied += other.tallied;
         for (class, answers) in other.classes {
             let sums = self.classes.entry(class).or_default();
@@ -96,7 +100,8 @@ impl Run {
             Some(call) => {
                 counts.tallied += state.tallied(call) as usize;
                 let before = counts.cover.before(call, state);
-                let answer = state.checked(call);
+                let (answer, ran) = watched(|| state.checked(call));
+                counts.ran += ran as usize;
                 counts.cover.after(call, &before, &answer, state);
                 (name(call), answer)
             }

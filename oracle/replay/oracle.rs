@@ -1,4 +1,4 @@
-//! Answers lines of PROTOCOL.md by the functions of rs_pbrt under document 01's checks.
+//! Answers lines of PROTOCOL.md by the functions of rs_pbrt under the checks of the specification (section 4.3).
 //!
 //! usage: oracle answer                                        reads lines, and writes an answer for each
 //!        oracle vectors STDIN_FILE STDOUT_FILE                writes the stored lines and their answers

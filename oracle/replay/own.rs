@@ -144,7 +144,7 @@ pub fn stored(put: history::Put) {
     draws_refused_for_several_causes(rng, put);
 }
 
-// ---- document 01's "Proved table"
+// ---- the proved values (specification, section 13.2)
 
 fn proved_table(put: Put) {
     let class = "proved table";
@@ -158,7 +158,7 @@ fn proved_table(put: Put) {
     }
 }
 
-/// The draw of the "Proved table" with the given first row of values.
+/// The draw of the proved values with the given first row of values.
 fn flat(value: f32, allowance: u32) -> Draw {
     Draw {
         nodes1: vec![0.0, 1.0],

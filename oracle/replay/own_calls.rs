@@ -1,6 +1,6 @@
-//! Document 01's calls on a caller's own lists: its checks, in its order, around the functions of rs_pbrt.
+//! The calls on a caller's own lists (specification, section 11): their checks, in order, around the functions of rs_pbrt.
 use crate::calls::reference::{catmull_rom_weights, integrate_catmull_rom, sample_catmull_rom_2d};
-use crate::calls::{check_radii, check_rows, refuse, Outcome};
+use crate::calls::{check_radii, check_rows, refuse, rust_runs, Outcome};
 use crate::rounds::{self, MOST_ROUNDS};
 use crate::table::in_order;
 
@@ -18,6 +18,7 @@ pub type Weights = (i32, [f32; 4]);
 
 /// `catmull_rom_weights`, with none where it says false.
 pub fn offset_and_weights(nodes: &[f32], x: f32) -> Option<Weights> {
+    rust_runs();
     let mut offset = 0;
     let mut weights = [0.0; 4];
     catmull_rom_weights(nodes, x, &mut offset, &mut weights).then_some((offset, weights))
@@ -43,6 +44,7 @@ pub fn integrate(nodes: &[f32], values: &[f32], cdf: &mut [f32]) -> Result<f32, 
     check_rows(nodes.len())?;
     refuse(5, values.len() != nodes.len() || cdf.len() != nodes.len())?;
     refuse(6, !in_order(nodes))?;
+    rust_runs();
     Ok(integrate_catmull_rom(nodes.len() as i32, nodes, 0, values, cdf))
 }
 
@@ -56,6 +58,7 @@ pub fn sample_2d(lists: [&[f32]; 3], cdf: &[f32], alpha: f32, u: f32, allowance:
     refuse(6, !in_order(nodes1) || !in_order(nodes2))?;
     check_u(u)?;
     check_allowance(allowance)?;
+    rust_runs();
     let (mut value, mut density) = (0.0, 0.0);
     let draw = || sample_catmull_rom_2d(nodes1, nodes2, values, cdf, alpha, u, Some(&mut value), Some(&mut density));
     let (position, rounds) = rounds::within(allowance, draw).ok_or(13u32)?;

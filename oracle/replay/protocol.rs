@@ -215,7 +215,8 @@ pub fn name(call: &Call) -> &'static str {
     }
 }
 
-/// The names of the calls that are not document 01's, and of those that are, with the numbers that refuse them.
+/// The names of the lines that are about the lists alone, and of the offered calls, Q, E and L among them, with the numbers that
+/// refuse them (specification, section 4.3).
 pub const OTHERS: [&str; 8] = ["lens", "ownlens", "put", "fill", "dump", "owndump", "list", "dumpall"];
 pub const OFFERED: [(&str, &[u32]); 12] = [
     ("start", &[1, 2, 3, 4, 5]),

@@ -63,9 +63,9 @@ fn all_three(r: Record, c: Coefficients, ch: usize, x: f32, u: f32, history: &mu
 
 // ---- tables in part
 
-/// Document 01's own: of three rows only row 2 is built.
+/// The example of the specification (section 10.3): of three rows only row 2 is built.
 fn example(put: Put) {
-    let history = &mut History { class: "01's example", put };
+    let history = &mut History { class: "row 2 alone", put };
     for (m, medium) in [(2, MEDIA[0]), (5, MEDIA[1]), (64, MEDIA[2])] {
         let r = record(3, m, medium);
         let (inside, outside) = (middle(m), radii(m)[m - 1] * 2.0);

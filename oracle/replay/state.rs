@@ -1,5 +1,5 @@
 //! What a run keeps between lines, and its answers. From an accepted start on, as long as nothing else writes the lent lists, the
-//! answers of builds and queries are those of document 01's tally.
+//! answers of builds and queries are those of the plain tally (specification, section 12.2).
 use crate::calls::{self, Coefficients, Lists, Record};
 use crate::own_calls;
 use crate::protocol::{Call, OWN};
@@ -198,7 +198,7 @@ impl State {
         answer(Line::of("list").then(list).then(words.len()).words(&words), What::Shown)
     }
 
-    /// What writes a lent list and is no call of document 01 ends the tally's turn.
+    /// What writes a lent list and is none of the offered calls ends the tally's turn.
     fn write(&mut self, list: usize, write: impl FnOnce(&mut Store)) -> Answer {
         if list < OWN {
             self.tally = None;

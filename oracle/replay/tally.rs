@@ -1,5 +1,5 @@
-//! Document 01's plain tally: fed an accepted start's record and the arguments of later calls, it keeps that record and a set of
-//! row numbers, and answers by the set's table. It never sees an answer, a lent list or a mark.
+//! The plain tally (specification, section 12.2): fed an accepted start's record and the arguments of later calls, it keeps that
+//! record and a set of row numbers, and answers by the set's table. It never sees an answer, a lent list or a mark.
 use crate::calls::{self, Lists, Outcome, Record};
 use crate::store::Table;
 use crate::table::{albedos, radii};

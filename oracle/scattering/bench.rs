@@ -1,7 +1,7 @@
-//! Times the proved sums of beam diffusion beside the functions of rs_pbrt, these with the functions of std and with document 01's
-//! stand-ins: ns per sample, the least of many turns, in which the three take turns. The calls are those of a table of 100 albedos by
-//! 64 radii, each row with one of a few g and eta: one radius at a time, and a row at a time, where the proved function takes the
-//! logarithms once. The proved answers have to be those of the stand-ins, by bits.
+//! Times the proved sums of beam diffusion beside the functions of rs_pbrt, these with the functions of std and with the stand-ins:
+//! ns per sample, the least of many turns, in which the three take turns. The calls are those of a table of 100 albedos by 64 radii,
+//! each row with one of a few g and eta: one radius at a time, and a row at a time, where the proved function takes the logarithms
+//! once. The proved answers have to be those of the stand-ins, by bits.
 #[path = "../shared/references.rs"]
 mod references;
 #[path = "../shared/stand_ins.rs"]
@@ -110,8 +110,8 @@ fn bits(list: Vec<f32>) -> Vec<u32> {
 fn main() {
     let (rows, radii) = (rows(), radii(RADII));
     println!(
-        "{:20} {:>10} {:>10} {:>8} {:>12} {:>10}",
-        "ns per sample", "Rust, std", "Rust, 01", "proved", "std/proved", "01/proved"
+        "{:20} {:>10} {:>10} {:>8} {:>12} {:>18}",
+        "ns per sample", "std", "stand-ins", "proved", "std/proved", "stand-ins/proved"
     );
     for (name, task) in TASKS {
         let ask = |who: &Who| answers(who, task, &rows, &radii);
@@ -121,6 +121,6 @@ fn main() {
         let mut proved = || _ = black_box(ask(&Who::Proved));
         let samples = (ROWS * RADII * SAMPLES) as f64;
         let [std, stand_ins, proved] = timing::least(TURNS, [&mut std, &mut stand_ins, &mut proved]).map(|time| time / samples);
-        println!("{:20} {:10.2} {:10.2} {:8.2} {:12.2} {:10.2}", name, std, stand_ins, proved, std / proved, stand_ins / proved);
+        println!("{:20} {:10.2} {:10.2} {:8.2} {:12.2} {:18.2}", name, std, stand_ins, proved, std / proved, stand_ins / proved);
     }
 }

@@ -1,4 +1,4 @@
-//! The calls of a case: the functions of rs_pbrt, and around `sw` document 01's checks.
+//! The calls of a case: the functions of rs_pbrt, and around `sw` its checks (specification, section 4.3).
 use crate::stand_ins::StandIns;
 use reference::{RGBEnum, RGBSpectrum, TabulatedBssrdf, Vector3f};
 
@@ -10,7 +10,7 @@ pub mod reference {
 
 impl StandIns for f32 {}
 
-/// Document 01 gives PI by its bits.
+/// The specification gives PI by its bits (section 7.6).
 const _: () = assert!(std::f32::consts::PI.to_bits() == 0x40490fdb);
 
 /// A function's name, and its arguments' bits. Before the spectrum of `channel` stands the channel's number.

@@ -1,4 +1,4 @@
-//! Writes cases for crates/scattering_test and the answers that the Rust gives, those of `sw` under document 01's checks.
+//! Writes cases for crates/scattering_test and the answers that the Rust gives, those of `sw` under its checks.
 //!
 //! usage: oracle vectors STDIN_FILE STDOUT_FILE               the stored cases
 //!        oracle cases SEED COUNT STDIN_FILE STDOUT_FILE      random ones

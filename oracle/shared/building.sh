@@ -9,8 +9,13 @@ usage() {
 }
 # build PROGRAM [FLAGS]
 build() {
+    sources=${RS_PBRT:-../shared/docs/src}
+    if ! [ -d "$sources" ]; then
+        echo "the sources of rs-pbrt are not in $sources; RS_PBRT names a checkout (NOTICE says where they are) or a folder of its files" >&2
+        exit 2
+    fi
     "${RUSTC:-rustc}" --edition 2021 -O -o "$out/cut" "${cut:-oracle/$name/cut.rs}"
-    "$out/cut" "${RS_PBRT:-../shared/docs/src}" "$out/reference.rs"
+    "$out/cut" "$sources" "$out/reference.rs"
     program=$1
     shift
     REFERENCE="$PWD/$out/reference.rs" "${RUSTC:-rustc}" --edition 2021 -O "$@" -o "$out/$program" "oracle/$name/$program.rs"

@@ -1,4 +1,4 @@
-//! What cut.rs wrote, twice: by document 01's stand-ins, and by the functions of std.
+//! What cut.rs wrote, twice: by the stand-ins of the specification (section 7), and by the functions of std.
 #[path = "stand_ins.rs"]
 mod std_functions;
 

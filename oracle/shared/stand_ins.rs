@@ -1,5 +1,5 @@
-//! Document 01's stand-ins for methods of a float, operation by operation from its text, as the trait to which the cut text's
-//! calls go. Whoever implements it can put another method in a stand-in's place.
+//! The stand-ins for methods of a float, operation by operation as the specification has them (section 7), as the trait to which the
+//! cut text's calls go. Whoever implements it can put another method in a stand-in's place.
 #![allow(dead_code)]
 
 pub trait StandIns: Into<f32> + Sized {

@@ -1,7 +1,7 @@
-//! Times the calls of the library beside the functions of rs_pbrt, these with the functions of std and with document 01's
-//! stand-ins: the least of many turns, in which the three take turns, and of that the median of several runs. The library checks
-//! what it is given in each call, and the functions of rs_pbrt check nothing. Before a call is timed, its answers have to be those
-//! of the stand-ins, by bits. What is printed is Markdown.
+//! Times the calls of the library beside the functions of rs_pbrt, these with the functions of std and with the stand-ins: the least
+//! of many turns, in which the three take turns, and of that the median of several runs. The library checks what it is given in each
+//! call, and the functions of rs_pbrt check nothing. Before a call is timed, its answers have to be those of the stand-ins, by bits.
+//! What is printed is Markdown.
 mod facade;
 mod library;
 mod lines;

@@ -6,7 +6,7 @@ use crate::tasks::{bits_of, Answer, Task};
 use crate::timing;
 use std::hint::black_box;
 
-/// The same table in the hands of each: the Rust with the functions of std, with document 01's stand-ins, and the library.
+/// The same table in the hands of each: the Rust with the functions of std, with the stand-ins, and the library.
 struct Three {
     std: by_std::Rust,
     stand_ins: by_stand_ins::Rust,

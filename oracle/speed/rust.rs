@@ -1,5 +1,5 @@
-//! The calls by the functions of rs_pbrt, with document 01's stand-ins and with the functions of std. None is inlined into the loop
-//! that times it.
+//! The calls by the functions of rs_pbrt, with the stand-ins and with the functions of std. None is inlined into the loop that times
+//! it.
 use crate::library::Material;
 
 /// By the lines of the Rust's `new`.

@@ -1,7 +1,7 @@
-//! How far whole tables, and the answers of queries on them, by document 01's stand-ins are from those by the functions of std: how
-//! many numbers differ; how many of these are special: zero, infinite or a NaN in one of the two; and of the others the most units
-//! in the last place, the greatest difference relative to std's, and how many are above some limits. Then where the greatest are,
-//! and the two numbers there. Each query is asked of both tables, each time by the functions that made it.
+//! How far whole tables, and the answers of queries on them, by the stand-ins are from those by the functions of std: how many
+//! numbers differ; how many of these are special: zero, infinite or a NaN in one of the two; and of the others the most units in the
+//! last place, the greatest difference relative to std's, and how many are above some limits. Then where the greatest are, and the
+//! two numbers there. Each query is asked of both tables, each time by the functions that made it.
 #[path = "../shared/numbers.rs"]
 mod numbers;
 #[path = "../shared/places.rs"]
