@@ -2,7 +2,8 @@
 """Wraps Markdown at 120 characters, so that a change shows as a small difference: tools/wrap.py [--check] [FILE..]
 The files, all *.md that git tracks if none is given, are rewritten, and those that change are named; with --check they
 are named only, and the status is 1 if there are any. Paragraphs are filled, those of list items and quotes too. Tables,
-code, headings, HTML and link definitions stay, and so does the text as it is read. Run again, it changes nothing."""
+code, headings, HTML and link definitions stay, and so does the text as it is read. So do the lines at the head of a page
+that begins with no heading, up to the first blank one: records of commits stand there. Run again, it changes nothing."""
 
 import itertools
 import os
@@ -167,7 +168,9 @@ def main():
     changed = False
     for path in files:
         text = open(path, encoding="utf8").read()
-        new = "\n".join(wrap(text.split("\n")))
+        lines = text.split("\n")
+        head = 0 if kind(lines[0]) == "heading" else past(lines, 0, lambda x: kind(x) != "blank")
+        new = "\n".join(lines[:head] + wrap(lines[head:]))
         if new != text:
             print(path)
             changed = True
