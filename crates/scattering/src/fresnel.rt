@@ -73,13 +73,17 @@ fn reflected_at(b: Boundary, sin_theta_t: f32, cos_theta_t: f32) -> f32
     if sin_theta_t >= 1.0 { 1.0 } else { part }
 }
 
-// How much of the light is reflected at the boundary between two dielectrics.
+// How much of the light is reflected at the boundary between two dielectrics. Of one cosine what is not
+// asked for is not worked out.
 pub fn fr_dielectric(cos_theta_i: f32, eta_i: f32, eta_t: f32) -> f32
     ensures { result ≡ Fresnel.fr_dielectric cos_theta_i eta_i eta_t }
 {
     let b = swapped(cos_theta_i, eta_i, eta_t);
     let sine = snell(b, elementary::sqrt(complement(b.cos_theta_i)));
-    reflected_at(b, sine, elementary::sqrt(complement(sine)))
+    if sine >= 1.0 {
+        return 1.0;
+    }
+    reflectance_at(b, elementary::sqrt(complement(sine)))
 }
 
 // `fr_dielectric` at the cosine of each sample. The roots of a list are taken together, by the

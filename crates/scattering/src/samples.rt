@@ -28,6 +28,8 @@ pub struct SampleLogs {
 }
 
 impl SampleLogs {
+    // Inline, so that the values are made where they stay: else they are copied there, by a function of C.
+    #[inline(always)]
     pub fn new() -> SampleLogs
         ensures { result.values ≡ Samples.sample_logs }
     {
