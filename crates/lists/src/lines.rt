@@ -46,6 +46,29 @@ fn check_lens(names: &[Name], lens: &[u32]) -> Result<(), Malformed>
     Ok(())
 }
 
+// Stores a line's floats in a list. In the match over the ten lists each arm would make room for a line,
+// and a short line takes half as long again. Not over any type, of which no proof knows that 64 fit.
+fn put_floats<const N: usize>(
+    list: &mut List<f32, N>,
+    from: usize,
+    line: Line<'_>,
+) -> Result<(), Malformed>
+    ensures { is_err result ≡ true → list.new ≡ list.old }
+{
+    list.put(from, line.entries()?.as_slice())
+}
+
+// The same of bytes.
+fn put_bytes<const N: usize>(
+    list: &mut List<u8, N>,
+    from: usize,
+    line: Line<'_>,
+) -> Result<(), Malformed>
+    ensures { is_err result ≡ true → list.new ≡ list.old }
+{
+    list.put(from, line.entries()?.as_slice())
+}
+
 impl Lists {
     // All lengths and entries are 0.
     pub fn new() -> Lists {
@@ -177,16 +200,16 @@ impl Lists {
         ensures { is_err result ≡ true → self.new ≡ self.old }
     {
         match name {
-            Name::Rho => self.rho.put(from, line.entries()?.as_slice()),
-            Name::Radii => self.radii.put(from, line.entries()?.as_slice()),
-            Name::Profile => self.profile.put(from, line.entries()?.as_slice()),
-            Name::Eff => self.eff.put(from, line.entries()?.as_slice()),
-            Name::Cdf => self.cdf.put(from, line.entries()?.as_slice()),
-            Name::Marks => self.marks.put(from, line.entries()?.as_slice()),
-            Name::Nodes1 => self.nodes1.put(from, line.entries()?.as_slice()),
-            Name::Nodes2 => self.nodes2.put(from, line.entries()?.as_slice()),
-            Name::Values => self.values.put(from, line.entries()?.as_slice()),
-            Name::OwnCdf => self.own_cdf.put(from, line.entries()?.as_slice()),
+            Name::Rho => put_floats(&mut self.rho, from, line),
+            Name::Radii => put_floats(&mut self.radii, from, line),
+            Name::Profile => put_floats(&mut self.profile, from, line),
+            Name::Eff => put_floats(&mut self.eff, from, line),
+            Name::Cdf => put_floats(&mut self.cdf, from, line),
+            Name::Marks => put_bytes(&mut self.marks, from, line),
+            Name::Nodes1 => put_floats(&mut self.nodes1, from, line),
+            Name::Nodes2 => put_floats(&mut self.nodes2, from, line),
+            Name::Values => put_floats(&mut self.values, from, line),
+            Name::OwnCdf => put_floats(&mut self.own_cdf, from, line),
         }
     }
 
