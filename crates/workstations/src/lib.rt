@@ -7,4 +7,4 @@ pub mod claim;
 pub mod making;
 
 pub use calls::{Call, Query, Reply};
-pub use making::{ask, make, step};
+pub use making::{ask, make, make_batch, step};

@@ -51,3 +51,19 @@ pub fn make(t: &mut TableMut<'_>, calls: &[Call], answers: &mut [Result<Reply, R
         answers[j] = step(t, calls[j]);
     }
 }
+
+// The same of the first n calls of an array, or of all where n is larger, for a caller that lends no list:
+// the answers are returned, and the first n are theirs.
+pub fn make_batch<const N: usize>(
+    t: &mut TableMut<'_>,
+    calls: [Call; N],
+    n: usize,
+) -> [Result<Reply, Refusal>; N]
+    ensures answers { map Calls.told (take n result) ≡ (Calls.run t.old.record (lists_of_mut t.old) (map Calls.call_of (take n calls.entry))).answers }
+    ensures lists_after { lists_of_mut t.new ≡ (Calls.run t.old.record (lists_of_mut t.old) (map Calls.call_of (take n calls.entry))).lists }
+    ensures same { SameTable t.old t.new }
+{
+    let mut answers = [Ok(Reply::Done); N];
+    make(t, &calls[..n.min(N)], &mut answers);
+    answers
+}
